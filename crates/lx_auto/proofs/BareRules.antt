@@ -27,7 +27,7 @@ module _ (marks : List Bool) (spec : PlainSpec) (rules : List NumberedRule) (par
         omega arith
   ]
 
-  -- the last position of each lies before that of the last one
+  -- the last position of each is before that of the last one
   ending : (k l : ℕ) (r s : NumberedRule) → k ≤ l → slice_get rules k ≡ Some r → slice_get rules l ≡ Some s → r.base + position_count r.tree ≤ s.base + position_count s.tree
   ending k l r s order here there = elim (cases_lt k l) [
     | inl before ↦ let apart = numbered.apart k l r s before here there in omega arith
@@ -56,7 +56,7 @@ module _ (marks : List Bool) (spec : PlainSpec) (rules : List NumberedRule) (par
       let h = ending k high.place r end.0 (omega arith) here end.1 in
       bare q (omega arith) (omega arith)
 
-  -- nothing can be read by any of them
+  -- none of them can read anything
   pub left_reads : (flags : List Bool) → AreReadBelow (FollowsMarked marks) rules i flags → i ≤ j → AreReadBelow (FollowsMarked marks) rules j flags
   left_reads flags so_far order = record {
     each = λ q. (

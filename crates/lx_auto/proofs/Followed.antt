@@ -192,7 +192,7 @@ untouched_final r marks true none q t f =
 pub untouched_ends : (r : NumberedRule) (marks : List Bool) → ((q : ℕ) → r.base ≤ q → q < r.base + position_count r.tree + 1 → flag marks q ≡ false) → EndsMarked marks r → ⊥
 untouched_ends r marks none h = untouched_final r marks r.rule.reading.line_end none h.0 h.1 h.2
 
--- one rule more, gone through or not
+-- one rule more, visited or not
 pub step_more : (Reads : NumberedRule → ℕ → Type 0) (spec : PlainSpec) (rules : List NumberedRule) (n : ℕ) (r : NumberedRule) (old new : List Bool) →
     ((s : NumberedRule) (q : ℕ) → Reads s q → InRange s q) → AreNumbered spec rules → slice_get rules n ≡ Some r →
     AreReadBelow Reads rules n old → ReadsOrStays Reads r old new → AreReadBelow Reads rules (n + 1) new

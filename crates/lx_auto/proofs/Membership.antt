@@ -69,7 +69,7 @@ places_rise i [] = λ a b h l. absurd (omega arith)
 places_rise i (true ∷ flags) = rising_cons i (places_from (suc i) flags) (λ q c. let l = places_at_least (suc i) q flags c in omega arith) (places_rise (suc i) flags)
 places_rise i (false ∷ flags) = places_rise (suc i) flags
 
--- two rising lists with the same members are the same
+-- two ascending lists with the same members are the same
 below_tail : (x q : ℕ) (xs : List ℕ) → IsRising (x ∷ xs) → Contains xs q → x < q
 below_tail x q xs rising h =
     let l = rising 0 (suc h.0) (omega arith) (let m = h.1 in omega arith) in

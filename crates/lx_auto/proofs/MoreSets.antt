@@ -55,7 +55,7 @@ module _ (f g : Regex → Unfolded) (same : (tree : Regex) → HaveSamePositions
       at_other (base + (position_count (f rule.reading.tree) + newline_count rule.reading.line_end)) (other + (position_count (g rule.reading.tree) + newline_count rule.reading.line_end))
       (ap₂ (λ b n. b + (n + newline_count rule.reading.line_end)) e ((same rule.reading.tree).count)) rules i r h
 
-  -- over a rule whose expression is in the first form
+  -- the same for a rule whose expression is in the first form
   module _ (r : NumberedRule) (is : r.tree ≡ f r.rule.reading.tree) where
     tree_same : HaveSamePositions r.tree (g r.rule.reading.tree)
     tree_same = subst (λ t. HaveSamePositions t (g r.rule.reading.tree)) (sym is) (same r.rule.reading.tree)
@@ -143,7 +143,7 @@ pub some_member : (S : List ℕ) → S ≢ [] → (q : ℕ) × Contains S q
 some_member [] h = absurd (h refl)
 some_member (q ∷ S) h = (q, contains_head q S)
 
--- too many sets over the expressions as they are kept, so too many of the specification
+-- too many sets over the expressions as they are kept are too many of the specification
 pub more_reached : (spec : PlainSpec) (limit : ℕ) → HasMoreSets spec (numbered (simplified_pattern spec.definitions) 0 spec.rules) limit → HasMoreReachedSets spec limit
 more_reached spec limit more =
     let rules = numbered (simplified_pattern spec.definitions) 0 spec.rules in

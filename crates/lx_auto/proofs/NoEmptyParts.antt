@@ -1,4 +1,4 @@
--- A simplified expression is empty, or has nowhere in it a part that is empty.
+-- A simplified expression is empty, or has no empty part.
 use Rattle.std.proofs.Common.{◌≡◌, ℕ, zero, suc, inl, inr, Bool, true, false, List, Option, Some, None, refl}
 use Rattle.lx_ere.specs.Regex.{Regex, nil, one_of, then, or, times, named}
 use Rattle.lx_rules.specs.Plain.{PlainDefinition}

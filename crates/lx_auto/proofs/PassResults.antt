@@ -83,7 +83,7 @@ null_last xs (plus a) i s h =
     let z = plus_nodes a in let x = null_length a in let v = length_joined xs (null_list a) in
     ap (λ l. flag l i) (sym (append_assoc xs (null_list a) (nullable a ∷ []))) ∙ flag_behind (xs ++ null_list a) (nullable a) i (omega arith)
 
--- upwards: which nodes match the empty word
+-- upwards: the nodes that match the empty word
 pub nulls_pass : (e : Unfolded) (more : List PlainNode) (xs : List Bool) → HasNoEmptyPart e → nulls_from (nodes_of e ++ more) xs ≡ nulls_from more (xs ++ null_list e)
 nulls_pass empty more xs s = absurd s
 nulls_pass (leaf b) more xs s = refl

@@ -156,7 +156,7 @@ some-defined (x ∷ xs) name t e = by (pointwise nat_eq x.name name) refl e (som
 pub record AreOrdered (definitions : List PlainDefinition) : Type 0 where
   pub at : (name : List ℕ) (tree : Regex) → tree_named definitions name ≡ Some tree → IsTrue (has_ordered_bounds tree)
 
--- a name that is defined, no deeper than so
+-- the words of a defined name, nested no deeper than allowed
 words-name : (ds : List PlainDefinition) (n : ℕ) → IsTrue (are_distinct (map (λ x. x.name) ds)) → AreOrdered ds
     → ((tree : Regex) → IsTrue (has_ordered_bounds tree) → IsTrue (is_within n ds tree) → AreWords (Matches (NameMatches ds n) tree) (written_out (name_written_out ds n) tree))
     → (name : List ℕ) → IsTrue (holds_of (is_within n ds) (tree_named ds name)) → AreWords (NameMatches ds (suc n) name) (name_written_out ds (suc n) name)

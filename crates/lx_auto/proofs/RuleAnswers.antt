@@ -164,7 +164,7 @@ module _ (spec : PlainSpec) (sound : HasSoundPatterns spec) where
           ap (λ (b : Bool). if b then length h.0 + 1 else length h.0) is ∙ sym long,
         )
 
-    -- and one that fits it with such a reach matches it
+    -- and a rule that fits it with this reach matches it
     fits_whole : (i : ℕ) (r : NumberedRule) → slice_get (numbered (simplified_pattern spec.definitions) 0 spec.rules) i ≡ Some r → (line_end : Bool) → r.rule.reading.line_end ≡ line_end →
         (n : ℕ) → Fits spec r.rule c begin w n → reach r.rule n ≡ length w → WholeWithEnd line_end r w
     fits_whole i r at false is n h e =

@@ -1,4 +1,4 @@
--- The position set of a word with one byte more follows from that of the word; and which rules match the word can be seen from it.
+-- The position set of a word with one byte more follows from that of the word, and determines the rules that match the word.
 use Rattle.std.proofs.Common.{◌≡◌, ◌≢◌, ℕ, ◌↔◌, Bool, List, [], ◌∷◌, ◌++◌, Some, sym, ◌∙◌, subst}
 use Rattle.std.specs.Prelude.{slice_get}
 use Rattle.lx_ere.specs.Regex.{Regex}

@@ -15,7 +15,7 @@ pub unless : Bool → ℕ
 unless true = 0
 unless false = 1
 
--- the room that is left for an `opt` and a `plus` above the expression, and for two that its joining to another takes
+-- the room that is left for an `opt` and a `plus` above the expression, and for two nodes that join it to another one
 pub room : Unfolded → ℕ
 room empty = 0
 room (leaf s) = 4
@@ -24,7 +24,7 @@ room (alt a b) = 3 + unless (nullable a || nullable b)
 room (opt a) = 2 + unless (is_repeated (opt a))
 room (plus a) = 2 + unless (nullable a)
 
--- five nodes a position, and room besides
+-- five nodes a position, and the room
 pub record IsSmall (t : Unfolded) : Type 0 where
   pub few : length (nodes_of t) + room t ≤ 5 * position_count t
 

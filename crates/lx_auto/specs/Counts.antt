@@ -27,7 +27,7 @@ abbrev pub count_of_name : List PlainDefinition → ℕ → List ℕ → ℕ
 count_of_name definitions zero name = 0
 count_of_name definitions (suc n) name = count_if_defined (count_of_name definitions n) (tree_named definitions name)
 
--- the positions of a pattern: names are nested at most so deep as is allowed
+-- the positions of a pattern, with names nested to the allowed depth
 unfoldable pub count_of_pattern : List PlainDefinition → Regex → ℕ
 count_of_pattern definitions tree = count_in (count_of_name definitions max_name_depth) tree
 

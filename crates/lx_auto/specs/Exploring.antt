@@ -13,7 +13,7 @@ use Rattle.lx_auto.specs.SetTable.{Positions, set_of, IsTarget}
 abbrev pub positions_with_byte : List PlainLeaf → ℕ → List ℕ → List ℕ
 positions_with_byte leaves b F = filter (λ q. has_byte leaves q b) F
 
--- a rising set that isn't empty, and that some word of bytes leads to from a start
+-- an ascending set that isn't empty, and that some word of bytes leads to from a start
 pub record IsReachedSet (spec : PlainSpec) (rules : List NumberedRule) (S : List ℕ) : Type 0 where
   pub from : StartAndWord
   pub start : from.condition < length spec.conditions

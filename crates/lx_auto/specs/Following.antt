@@ -27,7 +27,7 @@ EndsMarked marks r = (q : ℕ) × (flag marks q ≡ true) × IsFinal r q
 abbrev pub BeginsWith : PlainSpec → ℕ → Bool → NumberedRule → ℕ → Type 0
 BeginsWith spec condition begin r q = IsActiveAt spec r.rule condition begin × First r.tree r.base q
 
--- by one of the first n rules q can be read
+-- one of the first n rules can read q
 pub record IsReadBelow (Reads : NumberedRule → ℕ → Type 0) (rules : List NumberedRule) (n q : ℕ) : Type 0 where
   pub place : ℕ
   pub below : place < n
@@ -35,18 +35,18 @@ pub record IsReadBelow (Reads : NumberedRule → ℕ → Type 0) (rules : List N
   pub at : slice_get rules place ≡ Some rule
   pub reads : Reads rule q
 
--- the flags say which positions can be read by the first n rules
+-- the flags are true for the positions that the first n rules can read
 pub record AreReadBelow (Reads : NumberedRule → ℕ → Type 0) (rules : List NumberedRule) (n : ℕ) (reads : List Bool) : Type 0 where
   pub each : (q : ℕ) → (flag reads q ≡ true) ↔ IsReadBelow Reads rules n q
 
--- the flags of the rule's range say which of its positions can be read, and all others are as they were
+-- the flags of the rule's range are true for its positions that can be read; all others are as they were
 pub record ReadsRule (Reads : NumberedRule → ℕ → Type 0) (r : NumberedRule) (old new : List Bool) : Type 0 where
   pub long : length new ≡ length old
   pub own : (q : ℕ) → r.base ≤ q → q < r.base + size_of r → (flag new q ≡ true) ↔ Reads r q
   pub below : (q : ℕ) → q < r.base → flag new q ≡ flag old q
   pub above : (q : ℕ) → r.base + size_of r ≤ q → flag new q ≡ flag old q
 
--- the rule was gone through, or nothing can be read by it and the flags are as they were
+-- the rule was visited, or it can read nothing and the flags are as they were
 abbrev pub ReadsOrStays : (NumberedRule → ℕ → Type 0) → NumberedRule → List Bool → List Bool → Type 0
 ReadsOrStays Reads r old new = ReadsRule Reads r old new ⊎ ((new ≡ old) × ((q : ℕ) → Reads r q → ⊥))
 
@@ -56,7 +56,7 @@ pub record IsMatchedAt (rules : List NumberedRule) (marks : List Bool) (i : ℕ)
   pub at : slice_get rules i ≡ Some rule
   pub ends : EndsMarked marks rule
 
--- the first of the first n rules that has matched, or none of them has
+-- the first of the first n rules that has matched, if one has
 abbrev pub IsFirstMatchedBelow : List NumberedRule → List Bool → ℕ → Option ℕ → Type 0
 IsFirstMatchedBelow rules marks n found =
     MatchOption found ((j : ℕ) → j < n → IsMatchedAt rules marks j → ⊥)

@@ -51,7 +51,7 @@ HasByte (alt a b') k p b = HasByte a k p b ⊎ HasByte b' (k + position_count a)
 HasByte (opt a) k p b = HasByte a k p b
 HasByte (plus a) k p b = HasByte a k p b
 
--- by Has the expression's positions, numbered from k, have the bytes of its leaves
+-- Has gives the expression's positions, numbered from k, the bytes of its leaves
 abbrev pub HasItsBytes : (ℕ → ℕ → Type 0) → Unfolded → ℕ → Type 0
 HasItsBytes Has empty k = Unit {0}
 HasItsBytes Has (leaf bytes) k = (b : ℕ) → Has k b ↔ IsTrue (set.contains bytes b)

@@ -1,4 +1,4 @@
--- Which positions of a rule a word reaches, step by step.
+-- The positions of a rule that a word reaches, step by step.
 use Rattle.std.specs.Prelude.{◌≡◌, ◌≢◌, ℕ, ◌⊎◌, Bool, true, false, IsTrue, List, [], ◌∷◌, ◌++◌}
 use Rattle.lx_auto.specs.Unfolded.{ByteWord}
 use Rattle.lx_auto.specs.Positions.{Last, Follow, IsReached}

@@ -6,7 +6,7 @@ use Rattle.std.specs.declared.hash.BuildHasherDefault.{BuildHasherDefault}
 use Rattle.std.specs.HashMap.{get, HashMap}
 use Rattle.smallvec.specs.SmallVec.{SmallVec}
 
--- a set of positions, rising
+-- a set of positions, in ascending order
 abbrev pub Positions : Type 0
 Positions = SmallVec ℕ
 
@@ -35,7 +35,7 @@ abbrev pub IsTarget : List Positions → Option ℕ → List ℕ → Type 0
 IsTarget sets None set = set ≡ []
 IsTarget sets (Some j) set = (set ≢ []) × (j < length sets) × (set_of sets j ≡ set)
 
--- the later list goes on from the earlier one, with at most this set
+-- the later list extends the earlier one, by at most this set
 pub record IsExtendedBy (old new : List Positions) (set : List ℕ) : Type 0 where
   pub more : length old ≤ length new
   pub at_most : length new ≤ length old + 1

@@ -9,7 +9,7 @@ pub record AreFollowing (rules : List NumberedRule) (S F : List ℕ) : Type 0 wh
   pub rising : IsRising F
   pub each : (q : ℕ) → Contains F q ↔ FollowsSet rules S q
 
--- the positions with which an active rule can begin, rising
+-- the positions with which an active rule can begin, in ascending order
 pub record AreFirst (spec : PlainSpec) (rules : List NumberedRule) (condition : ℕ) (begin : Bool) (F : List ℕ) : Type 0 where
   pub rising : IsRising F
   pub each : (q : ℕ) → Contains F q ↔ IsFirstAt spec rules condition begin q

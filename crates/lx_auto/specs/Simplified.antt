@@ -15,7 +15,7 @@ opt_unless false a = opt a
 abbrev pub opt_of : Unfolded → Unfolded
 opt_of a = opt_unless (nullable a) a
 
--- one or more, unless it is so already
+-- one or more, unless the expression has that form already
 abbrev pub plus_of : Unfolded → Unfolded
 plus_of empty = empty
 plus_of (leaf s) = plus (leaf s)

@@ -1,4 +1,4 @@
--- When a specification is too large for an automaton.
+-- The limits beyond which a specification is too large for an automaton.
 use Rattle.std.specs.Prelude.{◌<◌, ◌≤◌}
 use Rattle.lx_rules.specs.Limits.{max_positions, max_reached_sets}
 use Rattle.lx_rules.specs.Plain.{PlainSpec}

@@ -41,6 +41,6 @@ abbrev pub name_written_out : List PlainDefinition → ℕ → List ℕ → Unfo
 name_written_out definitions zero name = empty
 name_written_out definitions (suc n) name = written_if_defined (name_written_out definitions n) (tree_named definitions name)
 
--- the expression of a pattern: names are nested at most so deep as is allowed
+-- the expression of a pattern, with names nested to the allowed depth
 unfoldable pub pattern_written_out : List PlainDefinition → Regex → Unfolded
 pattern_written_out definitions tree = written_out (name_written_out definitions max_name_depth) tree

@@ -148,7 +148,7 @@ module _ (m : Machine) (states encoded_options : List ℕ) (starts : List (ℕ �
   pub starts_long : length starts ≡ length m.starts
   starts_long = are_starts.long
 
-  -- the rules that are accepted are there
+  -- each accepted rule exists
   pub accepts_below : (s r : ℕ) → accepted_by q s ≡ Some r → r < rules
   accepts_below s r e = elim (cases_lt s (length states)) [
     | inl l ↦ rule_found rules r (accepted_by m (slice_index states s)) (sym (accepted_place s l) ∙ e)

@@ -1,4 +1,4 @@
--- Byte classes out of provisional ones, as far as they are numbered.
+-- Byte classes out of provisional ones, as they are numbered.
 use Rattle.std.specs.Prelude.{◌≡◌, ℕ, ◌+◌, ◌*◌, ◌<◌, ◌≤◌, IsTrue, List, length, slice_index}
 use Rattle.lx_automaton.specs.Automata.{Machine, state_count, class_target, are_numbered}
 use Rattle.lx_automaton.specs.EncodedOptions.{decoded_option}

@@ -8,7 +8,7 @@ abbrev pub zeros : List ℕ → ℕ
 zeros [] = 0
 zeros (encoded_option ∷ encoded_options) = (if encoded_option == 0 then 1 else 0) + zeros encoded_options
 
--- The states that were met, in that order; and of each state 0 before it is met, or one more than its place there.
+-- The met states, in that order; and for each state 0 before it is met, then one more than its place among them.
 pub record AreMet (states encoded_options : List ℕ) : Type 0 where
   pub room : length states + zeros encoded_options ≡ length encoded_options
   pub below : (i : ℕ) → i < length states → slice_index states i < length encoded_options

@@ -15,7 +15,7 @@ use Rattle.lx_check.specs.declared.report.Counts.{Counts}
 use Rattle.lx_check.specs.declared.report.Report.{Report}
 use Rattle.lx_check.specs.declared.report.Report.TheVariants as report
 
--- The first of the findings is wrong with the text.
+-- The first of the findings is one of the text.
 abbrev pub BeginsWithFinding : List ℕ → List Finding → Type 0
 BeginsWithFinding text [] = ⊥
 BeginsWithFinding text (finding ∷ more) = IsFinding text finding

@@ -24,7 +24,7 @@ pub data AreFurther : ℕ → ℕ → Option (List ℕ) → List Finding → Typ
   found : (most left : ℕ) (text : List ℕ) (fault : SpecFault) (more : List Finding) → length text ≤ left → IsFault text fault →
       AreFurther most (left - length text) (without text fault) more → AreFurther (suc most) left (Some text) (Specification fault ∷ more)
 
--- the most bytes that are read of a text and of those in which its faults are out of action
+-- the greatest number of bytes that are read, of a text and of those in which its faults are masked
 abbrev pub max_read_bytes : ℕ
 max_read_bytes = 2000000
 

@@ -6,19 +6,19 @@ use Rattle.lx_spec.specs.Whole.{IsFault, IsRead}
 use Rattle.lx_check.specs.declared.finding.Finding.{Finding}
 use Rattle.lx_check.specs.declared.finding.Finding.TheVariants.{Specification, TooManyPositions, TooManySets}
 
--- in which way a specification is too large for tables: of positions, or of reached sets
+-- a specification is too large for tables: it has too many positions, or too many reached sets
 abbrev pub IsTooLarge : PlainSpec → Finding → Type 0
 IsTooLarge spec (Specification fault) = ⊥
 IsTooLarge spec TooManyPositions = HasTooManyPositions spec
 IsTooLarge spec TooManySets = HasTooManySets spec
 
--- the text says a specification that is too large
+-- the text's specification is too large
 pub record SaysTooLarge (text : List ℕ) (finding : Finding) : Type 0 where
   pub spec : PlainSpec
   pub read : IsRead text spec
   pub too_large : IsTooLarge spec finding
 
--- This is wrong with the text.
+-- This is a finding of the text.
 abbrev pub IsFinding : List ℕ → Finding → Type 0
 IsFinding text (Specification fault) = IsFault text fault
 IsFinding text TooManyPositions = SaysTooLarge text TooManyPositions

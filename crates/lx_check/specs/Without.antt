@@ -13,12 +13,12 @@ use Rattle.lx_spec.specs.declared.fault.SpecFault.{SpecFault}
 abbrev pub line_instead : List ℕ → ℕ → ℕ → ℕ → List ℕ → List ℕ
 line_instead this first end n line = if nat_eq n first then this else if nat_lt first n && nat_lt n end then 10 ∷ [] else line
 
--- the lines from number n on, so changed
+-- the lines from number n on, with the replacement
 abbrev pub lines_instead : List ℕ → ℕ → ℕ → ℕ → List (List ℕ) → List ℕ
 lines_instead this first end n [] = []
 lines_instead this first end n (line ∷ lines) = line_instead this first end n line ++ lines_instead this first end (n + 1) lines
 
--- the text, so changed
+-- the text, with the replacement
 abbrev pub text_instead : List ℕ → ℕ → ℕ → List ℕ → List ℕ
 text_instead this first end text = lines_instead this first end 1 (lines_of text)
 
@@ -60,7 +60,7 @@ abbrev pub has_two_words : Option (List ℕ × List ℕ) → Bool
 has_two_words None = false
 has_two_words (Some word) = has_one_word (next_word word.1)
 
--- a line of Definitions declares one name at most: it doesn't begin with %, or has two words
+-- a line of Definitions declares at most one name: it doesn't begin with %, or has two words
 abbrev pub declares_one : List ℕ → Bool
 declares_one [] = true
 declares_one (c ∷ line) = if nat_eq c 37 then has_two_words (next_word (c ∷ line)) else true

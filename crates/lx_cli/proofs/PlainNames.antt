@@ -30,7 +30,7 @@ rules b = record (rules_rule (id b)) {
 abbrev help : Rule
 help = record help_rule { range = Some (record { start_inclusive = 0; end_inclusive = 0 }); parser = Some parser.String }
 
--- the options that aren't given in such words
+-- the options that aren't given in such arguments
 abbrev further_rules : List Rule
 further_rules =
     filled target_rule ∷ filled (flag_rule (codes "c")) ∷ filled (flag_rule (codes "header"))

@@ -55,7 +55,7 @@ abbrev own_rules : Listing → List Rule
 own_rules (of_run w) = one_value (workers_rule []) ∷ []
 own_rules (of_scan w) = one_value (workers_rule (codes "4" ∷ [])) ∷ []
 
--- the options that aren't given in such words
+-- the options that aren't given in such arguments
 abbrev further_rules : List Rule
 further_rules =
     filled (flag_rule (codes "names")) ∷ filled (option_rule (codes "only") (codes "only")) ∷ filled (flag_rule (codes "no-text"))
@@ -314,7 +314,7 @@ items_steps b (Some k) r f fs ready plain first more =
     (step_then _ _ _ _ _ k _ (number_passes b k ready.1.0) (number_goes b k ready.1.0)
     (name_steps b (Some k) r f fs ready plain first more))
 
--- the words of `-j`
+-- the arguments of `-j`
 abbrev first_words : Listing → List Text
 first_words (of_run w) = workers_words w
 first_words (of_scan w) = workers_words w

@@ -97,7 +97,7 @@ abbrev pub with_c : App → App
 with_c app =
     with_rule (with_rule (with_rule (with_rule (with_rule app (flag_rule (codes "c"))) (flag_rule (codes "header"))) (option_rule (codes "prefix") (codes "prefix"))) (option_rule (codes "include") (codes "include"))) (flag_rule (codes "direct"))
 
--- `gen` and `up`: `[-o FILE]`, the words on a scanner in C, and SPEC or TABLES
+-- `gen` and `up`: `[-o FILE]`, the arguments for a scanner in C, and SPEC or TABLES
 abbrev pub one_file_app : Text → Text → App
 one_file_app name id = with_rule (with_c (with_rule (new_app name) target_rule)) (rules_rule id)
 
@@ -358,7 +358,7 @@ asked_of p =
 abbrev pub IsFault : List Text → ErrorKind → Type 0
 IsFault words k = IsAmong k (fault_of lx_app words)
 
--- the kinds that aren't refusals: the help or the version was asked for
+-- the kinds that aren't rejections: the help or the version was asked for
 abbrev pub IsTold : ErrorKind → Type 0
 IsTold k = (k ≡ ErrorKind.DisplayHelp) ⊎ (k ≡ ErrorKind.DisplayVersion)
 

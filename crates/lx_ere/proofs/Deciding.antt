@@ -1,4 +1,4 @@
--- Facts that can be decided: put together, of a number below a bound, and of an element of a list.
+-- Decidable facts: put together, about a number below a bound, and about an element of a list.
 use Rattle.std.proofs.Common.{◌≡◌, ℕ, zero, suc, ◌<◌, ◌≤◌, ◌⊎◌, inl, inr, Bool, true, false, List, [], ◌∷◌, Contains, refl, sym, subst, arith}
 use native.Mathlib.Decide.{ℕ_discrete}
 

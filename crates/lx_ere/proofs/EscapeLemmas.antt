@@ -36,7 +36,7 @@ hexadecimal_prefix n (d ∷ digits) behind some all le ends small =
 octal_is : (c : ℕ) → is_digit 8 c ≡ true → (48 ≤ c) × (c < 56)
 octal_is c h = (octal_low c h, octal_high c h)
 
--- so it is no letter
+-- so it isn't a letter
 octal_no_letter : (c : ℕ) → is_digit 8 c ≡ true → letter_byte c ≡ None
 octal_no_letter c h = let range = octal_is c h in grind (arith, nat_tests)
 

@@ -1,4 +1,4 @@
--- An interval is only spelled with bounds in order, and so the trees that texts are read as have such bounds.
+-- An interval is only spelled with bounds in order, so the trees read from texts have such bounds.
 use Rattle.std.proofs.Common.{◌≡◌, ℕ, ◌≤◌, Bool, true, false, ◌&&◌, nat_eq, cond, List, [], ◌∷◌, ◌++◌, Option, Some, None, refl, sym, ap, ◌∙◌, arith}
 use Rattle.std.specs.Prelude.{IsTrue, nat_le}
 use Rattle.std.specs.List.{list_all}

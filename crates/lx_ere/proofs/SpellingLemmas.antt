@@ -301,7 +301,7 @@ lexeme_sound (c ∷ text) l behind e = by_slash (cases_of (nat_eq c 92) (as_set 
         opened 92 b (i.rest, subst (λ v. Spells (92 ∷ i.rest) l v) last (subst (λ x. Spells (92 ∷ i.rest) x (found.1)) same (of_escape (92 ∷ i.rest) (found.0) (found.1) i.spelled)), i.joins ∙ ap (λ v. i.rest ++ v) last)
     by_slash (inr (b, f)) = by_quote (cases_of (nat_eq c 34) (string_at text) (bracket_or_other c text) (Some (l, behind)) f)
 
--- a spelling has a byte at least
+-- a spelling has at least one byte
 pub spelling_some : (prefix : List ℕ) (l : Lexeme) (behind : List ℕ) → Spells prefix l behind → 0 < length prefix
 spelling_some _ _ _ (of_byte c l behind e) = omega arith
 spelling_some _ _ _ (of_escape text byte behind d) = let at = escape_complete text byte behind d in omega (arith, ap length at.slash)

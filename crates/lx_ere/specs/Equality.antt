@@ -1,4 +1,5 @@
--- When two sets of bytes, two trees and two readings are equal, as tests; `EqualityLaws` shows that they are true exactly at equal values.
+-- The equality of two sets of bytes, two trees and two readings, as tests; `EqualityLaws` shows that they are true if and only if the values are
+-- equal.
 use Rattle.std.specs.Prelude.{ℕ, Bool, true, false, nat_eq, ◌&&◌, List, Option}
 use Rattle.std.specs.Bool.{beq}
 use Rattle.std.specs.Option.{option_eq}

@@ -1,4 +1,4 @@
--- The tests of `Equality` are true exactly at equal values, and so they are equivalences.
+-- The tests of `Equality` are true if and only if the values are equal, so they are equivalences.
 use Rattle.std.specs.Prelude.{◌≡◌, ℕ, Bool, true, nat_eq, ◌&&◌, Option, Some, None}
 use Rattle.std.proofs.Common.{refl, sym, ap, ◌∙◌, subst, true≢false}
 use Rattle.std.specs.Bool.{Decides, beq}

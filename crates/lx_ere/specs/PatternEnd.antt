@@ -9,6 +9,6 @@ unfoldable pub least : (P : ℕ → Type 0) → ((n : ℕ) → P n ⊎ ¬ (P n))
 least P decided zero = 0
 least P decided (suc bound) = elim (decided 0) [ inl _ ↦ 0 | inr _ ↦ suc (least (λ n. P (suc n)) (λ n. decided (suc n)) bound) ]
 
--- The least place of a text, its end at the latest, at which the grammar has the end of the pattern at its front.
+-- The least place of a text at which the grammar has the end of the pattern at its front; at the latest the text's end.
 unfoldable pub pattern_end : List ℕ → ℕ
 pattern_end text = least (IsPatternEnd text) (ends_or_not text) (length text)

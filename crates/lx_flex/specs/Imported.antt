@@ -42,7 +42,7 @@ abbrev pub AreDefinitions : List FlexDefinition → List PlainDefinition → Typ
 AreDefinitions ds [] = Unit {0}
 AreDefinitions ds (read ∷ more) = IsDefinition ds read × AreDefinitions ds more
 
--- The text is a specification of lx, and says these conditions, these rules in this order, and of the definitions those that rules reach.
+-- The text is a specification of lx. It has these conditions, these rules in this order, and those of the definitions that rules reach.
 pub record IsImported (conditions : List StartCondition) (definitions : List FlexDefinition) (rules : List FlexRule) (text : List ℕ) : Type 0 where
   pub spec : PlainSpec
   pub is_read : IsRead text spec

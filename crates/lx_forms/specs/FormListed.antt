@@ -63,7 +63,7 @@ all_listed {S} {T} wrote taker at formed old new is same first start handed all 
           subst (λ (bs : List ℕ). wrote (at taker).sink bs (at new.taker).sink) bytes took.written
     ]
 
--- Else a prefix of it.
+-- Otherwise a prefix of it was written.
 pub part_listed : {S T : Type 0} (wrote : S → List ℕ → S → Type 0) (taker : T) (at : T → FormPrinting S) (formed : FormedPlan) (old new : Passing T) → IsPlan formed.plan → (at taker).formed ≡ formed → (at taker).turn ≡ first_turn → old ≡ fresh formed.plan taker → PassedIn wrote at old new → WrotePrefix wrote (at taker).sink (formed_listing formed) (at new.taker).sink
 part_listed {S} {T} wrote taker at formed old new is same first start handed =
     let passed : PassedIn wrote at (fresh formed.plan taker) new = subst (λ (o : Passing T). PassedIn wrote at o new) start handed in

@@ -43,7 +43,7 @@ items_one form plan file count =
     (flat_map-append (λ (piece : ItemPiece). piece.items) (pieces_to plan file count) (piece_at plan file count ∷ []) ∙ ap (λ more. contents (pieces_to plan file count) ++ more) (append-nil items))
     ∙ lines_both form plan file (contents (pieces_to plan file count)) items
 
--- but for the last one, a piece has the lines of its items
+-- except for the last one, a piece has the lines of its items
 open_piece : (form : PlainForm) (plan : Planned) (file number : ℕ) → (number + 1 ≡ pieces_of plan file → ⊥) → piece_lines_in form plan (piece_at plan file number) ≡ lines_in form plan file (part plan.per_piece (items_of plan file) number)
 open_piece form plan file number d =
     let items = part plan.per_piece (items_of plan file) number in

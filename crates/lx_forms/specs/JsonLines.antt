@@ -50,7 +50,7 @@ abbrev pub kind_value : Planned → Kind → List ℕ
 kind_value plan (Name place) = string_of (kind_of plan place)
 kind_value plan (Number number) = decimal number
 
--- the kind of a token, or that it is an Echo
+-- the kind of a token, or the mark of an Echo
 abbrev pub sort_member : Planned → Item → List ℕ
 sort_member plan (Token line start len kind) = codes ",\"kind\":" ++ kind_value plan kind
 sort_member plan (Echo line start len) = codes ",\"echo\":true"

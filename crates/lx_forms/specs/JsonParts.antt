@@ -12,7 +12,7 @@ use Rattle.lx_forms.specs.declared.json_prefixes.Prefix.{Prefix}
 use Rattle.lx_forms.specs.declared.json_prefixes.Prefixes.{Prefixes}
 use Rattle.lx_forms.specs.declared.json_prefixes.Slot.{Slot}
 
--- the kind of a token, or that it is an Echo
+-- the kind of a token, or the mark of an Echo
 abbrev pub sort_text : Planned → Option Kind → List ℕ
 sort_text plan None = codes ",\"echo\":true"
 sort_text plan (Some kind) = codes ",\"kind\":" ++ kind_value plan kind

@@ -44,7 +44,7 @@ pub record IsNoName (separator : ℕ) (text : List ℕ) (number : ℕ) : Type 0 
   pub ends : EndsName separator rest
   pub bad : ((name ≡ []) × (rest ≢ [])) ⊎ (is_utf8 name ≡ false)
 
--- More names begin there than this many.
+-- More names than this number begin there.
 pub record HasMoreNames (separator : ℕ) (text : List ℕ) (most : ℕ) : Type 0 where
   pub names : List (List ℕ)
   pub rest : List ℕ

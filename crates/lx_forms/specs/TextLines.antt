@@ -1,4 +1,4 @@
--- The lines of a listing in the form of lines: as without options, but for the file and the text.
+-- The lines of a listing in the form of lines: as without options, except for the file and the text.
 use Rattle.std.specs.Prelude.{ℕ, ◌==◌, if◌then◌else◌, List, [], ◌++◌, codes, decimal}
 use Rattle.std.specs.List.{flat_map}
 use Rattle.std.specs.Option.{option_map_or}

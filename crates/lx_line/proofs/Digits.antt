@@ -102,7 +102,7 @@ near_text n base low small sum hundreds h some =
     ∙ sym (append_assoc (decimal (n / 100)) (pair (n % 100)) (32 ∷ []))
     ∙ ap (λ (ds : List ℕ). ds ++ 32 ∷ []) (sym (decimal_pair n (omega arith) small))
 
--- the entry of a number below 100 in the table of texts: which bytes it has, and its length
+-- the entry of a number below 100 in the table of texts: its bytes and its length
 abbrev is_short_by : Bool → ℕ → Bool
 is_short_by one p =
     eqb (get_or SHORT (p * 4 + 3) 0) (cond one 2 3)

@@ -13,7 +13,7 @@ triple n = (48 + n / 100) ∷ (48 + n / 10 % 10) ∷ (48 + n % 10) ∷ []
 abbrev pub leading : ℕ → List ℕ
 leading high = if high == 0 then [] else decimal high
 
--- a number is the same as another one, which has zeros for its last two digits, but for these two
+-- a number differs at most in its last two digits from another one, which has zeros there
 abbrev pub IsNear : ℕ → ℕ → Type 0
 IsNear base number = (base ≤ number) × (number < base + 100)
 

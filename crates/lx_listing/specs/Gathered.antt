@@ -1,4 +1,4 @@
--- Lines that are gathered before they go on.
+-- Lines that are gathered before they are passed on.
 use Rattle.std.specs.Prelude.{ℕ, ◌≡◌, Bool, true, false, List, [], ◌++◌}
 use Rattle.lx_piece.specs.Pieces.{IsPrefix}
 
@@ -16,8 +16,8 @@ pub record Gathers {S : Type 0} (wrote : S → List ℕ → S → Type 0) (old :
   -- these bytes were written
   pub given : List ℕ
   pub written : wrote old.sink given new.sink
-  -- and the others are held,
+  -- the other bytes are held
   pub held : new.failed ≡ false → old.held ++ bytes ≡ given ++ new.held
-  -- unless it failed: then a prefix of all went on, and nothing more does
+  -- after a failure only a prefix of all was passed on, and nothing more is
   pub part : new.failed ≡ true → IsPrefix given (old.held ++ bytes)
   pub stopped : old.failed ≡ true → (new.failed ≡ true) × (given ≡ [])

@@ -30,7 +30,7 @@ part_on wrote s t u xs ys f h failed = elim (cases_Bool t.failed) [
       (prefix_behind f.given h.given (t.held ++ ys) (h.part failed))
 ]
 
--- once it failed it stays so
+-- once it failed it remains failed
 works_before : {S : Type 0} (wrote : S → List ℕ → S → Type 0) (t u : Gathered S) (ys : List ℕ) → Gathers wrote t ys u → u.failed ≡ false → t.failed ≡ false
 works_before wrote t u ys h working = elim (cases_Bool t.failed) [
   | inl before ↦ absurd (both_ways u.failed working (h.stopped before).0)

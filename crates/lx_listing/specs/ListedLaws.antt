@@ -102,7 +102,7 @@ listed_whole wrote at plan old new is plan_is first fresh working passed all = e
       subst (λ (bs : List ℕ). wrote (at old.taker).sink bs (at new.taker).sink) bytes took.written
 ]
 
--- Else a prefix of it.
+-- Otherwise a prefix of it was written.
 pub listed_part : {S T : Type 0} (wrote : S → List ℕ → S → Type 0) (at : T → Printing S) (plan : Planned) (old new : Passing T) → IsPlan plan → (at old.taker).plan ≡ plan → (at old.taker).turn ≡ first_turn → old.counts ≡ replicate (files_of plan) 0 → old.failed ≡ false → Passed wrote at old new → WrotePrefix wrote (at old.taker).sink (listing_of plan) (at new.taker).sink
 listed_part wrote at plan old new is plan_is first fresh working passed =
     let begun = fresh_turn plan old.counts (at old.taker).turn fresh first in

@@ -65,13 +65,13 @@ pub record Prints (old new : Printed) : Type 0 where
   pub plan : new.progress.plan ≡ old.progress.plan
   pub bytes : List ℕ
   pub wrote : Appends old.written new.written bytes
-  -- Until it fails, all that is due by the pieces taken.
+  -- Until it fails, it has written all lines that are due by the pieces taken.
   pub due : old.progress.failed ≡ false → new.progress.failed ≡ false → (text : List ℕ) → IsDue old.progress.plan old.progress.counts text → IsDue new.progress.plan new.progress.counts (text ++ bytes)
-  -- A prefix of the listing, failed or not.
+  -- A prefix of the listing was written, failed or not.
   pub prefix : old.progress.failed ≡ false → (text : List ℕ) → IsDue old.progress.plan old.progress.counts text → IsPrefix (text ++ bytes) (listing_of old.progress.plan)
-  -- Once every file is closed, all of the listing.
+  -- Once every file is closed, all of the listing was written.
   pub whole : old.progress.failed ≡ false → AreAllTaken new.progress.plan new.progress.counts → (text : List ℕ) → IsDue old.progress.plan old.progress.counts text → text ++ bytes ≡ listing_of new.progress.plan
   -- If it fails, a file stays open.
   pub stuck : old.progress.failed ≡ false → new.progress.failed ≡ true → HasOpenFile new.progress.plan new.progress.counts
-  -- Once it has failed, nothing, and it takes no piece.
+  -- Once it has failed, it writes nothing and takes no piece.
   pub stopped : old.progress.failed ≡ true → (new.progress.failed ≡ true) × (bytes ≡ []) × (new.progress.counts ≡ old.progress.counts)

@@ -19,7 +19,7 @@ use Rattle.lx_piece.specs.PieceLaws.{takes_in_order}
 use Rattle.lx_piece.proofs.Standing.{known, accepted_last, replies_last}
 use Rattle.lx_piece.proofs.Counts.{nexts, length-nexts, count_at}
 
--- an honest arrival leaves the accepted pieces the plan's
+-- after an honest arrival the accepted pieces are still the plan's
 pub with_planned : {C : Type 0} (made : Making C) (plan : Planned) (accepted : List (Piece C)) (p : Piece C) → All (IsPieceBy made plan) accepted → IsHonestBy made plan p → All (IsPieceBy made plan) (with_arrival (shape_of plan) accepted p)
 with_planned made plan accepted p h first =
     let go : (cause : Option Why) → cause ≡ cause_against (shape_of plan) accepted p → All (IsPieceBy made plan) (joined cause accepted p) = elim [
@@ -86,7 +86,7 @@ pub has_more : {C : Type 0} (shape : RunShape) (accepted : List (Piece C)) (p : 
 has_more shape accepted p file j None h = any_last (is_numbered file j) accepted p ∙ or_left (has_piece file j accepted) (is_numbered file j p) h
 has_more shape accepted p file j (Some why) h = h
 
--- an arrival more takes nothing back
+-- an arrival more takes no delivery back
 pub at_most_more : {C : Type 0} (shape : RunShape) (came : List (Piece C)) (counts : List ℕ) (p : Piece C) → AtMostDelivered shape came counts → AtMostDelivered shape (came ++ p ∷ []) counts
 at_most_more shape came counts p h =
     record {
@@ -113,7 +113,7 @@ fresh_shape plan kept run files k r f =
 pub fresh_delivered : {C : Type 0} (plan : Planned) (kept : Kept C) (run files : ℕ) → kept ≡ record { run = run; buffers = replicate files fresh_buffer } → files ≡ files_of plan → replicate (files_of plan) 0 ≡ delivered_counts kept
 fresh_delivered plan kept run files k f = sym (ap delivered_counts k ∙ fresh_counts _ files ∙ ap (λ (n : ℕ). replicate n 0) f)
 
--- all that the list before its last arrival delivers was taken
+-- all pieces that the list before its last arrival delivers were taken
 abbrev pub IsEager : {C : Type 0} → Planned → List (Piece C) → List ℕ → Type 0
 IsEager {C} plan came counts = (before : List (Piece C)) (last : Piece C) → came ≡ before ++ last ∷ [] → (file k : ℕ) → file < files_of plan → IsLeastMissing (accepted_of (shape_of plan) before) file k → k ≤ slice_index counts file
 
@@ -188,7 +188,7 @@ in_part_with made plan leads goes_on s t u kept replies counts p some so led hon
       taken = taken_from made plan so.came counts some so.honest delivered;
     }
 
--- before anything came nothing was taken
+-- before anything came no piece was taken
 pub part_at_start : {C : Type 0} (made : Making C) (plan : Planned) (leads : List (Piece C) → Type 0) (counts : List ℕ) → 0 < plan.per_piece → leads [] → counts ≡ replicate (files_of plan) 0 → RelayedInPartBy made plan leads counts
 part_at_start made plan leads counts some led e =
     let delivered : AtMostDelivered (shape_of plan) [] counts =

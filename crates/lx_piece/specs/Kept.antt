@@ -32,7 +32,7 @@ pub record Kept (C : Type 0) : Type 0 where
 abbrev pub shape_of_kept : {C : Type 0} → Kept C → RunShape
 shape_of_kept kept = record { run = kept.run; files = length kept.buffers }
 
--- those that a collector accepted of these arrivals
+-- the arrivals that a collector accepted
 abbrev pub accepted_by : {C : Type 0} → Kept C → List (Piece C) → List (Piece C)
 accepted_by kept came = accepted_of (shape_of_kept kept) came
 
@@ -89,14 +89,14 @@ closing_with closing p = if is_closing p then Some p.number else closing
 abbrev pub truncated_with : {C : Type 0} → Option ℕ → Piece C → Option ℕ
 truncated_with truncated p = if is_cut_short p then Some p.number else truncated
 
--- p is held besides, and nothing else has changed
+-- p is held, too, and nothing else has changed
 pub record HoldsPiece {C : Type 0} (old : Buffered C) (p : Piece C) (new : Buffered C) : Type 0 where
   pub next : new.next ≡ old.next
   pub closing : new.closing ≡ old.closing
   pub truncated : new.truncated ≡ old.truncated
   pub held : (n : ℕ) → held_at new n ≡ (if n == p.number then Some p else held_at old n)
 
--- the buffer holds p besides
+-- the buffer holds p, too
 pub record KeepsPiece {C : Type 0} (old : Buffered C) (p : Piece C) (new : Buffered C) : Type 0 where
   pub next : new.next ≡ old.next
   pub closing : new.closing ≡ closing_with old.closing p
@@ -122,7 +122,7 @@ pub record Delivers {C : Type 0} (old : List (Buffered C)) (file : ℕ) (p : Pie
 abbrev pub NoneReady : {C : Type 0} → List (Buffered C) → Type 0
 NoneReady buffers = (g : ℕ) → is_ready_at (slice_get buffers g) ≡ false
 
--- p is held besides in its file's buffer
+-- p is held in its file's buffer, too
 pub record KeepsIn {C : Type 0} (old : List (Buffered C)) (p : Piece C) (new : List (Buffered C)) : Type 0 where
   pub buffer : Buffered C
   pub kept : Buffered C
@@ -165,6 +165,6 @@ held_total buffers = sum_by (λ buffer. length buffer.held) buffers
 abbrev pub is_buffer_closed : {C : Type 0} → Buffered C → Bool
 is_buffer_closed buffer = closed_before buffer.closing buffer.next
 
--- it was, and is marked Cut
+-- it was delivered, and is marked Cut
 abbrev pub is_buffer_truncated : {C : Type 0} → Buffered C → Bool
 is_buffer_truncated buffer = closed_before buffer.truncated buffer.next

@@ -1,4 +1,4 @@
--- The rule of the word from which numbers of files are drawn: which of them the seats have drawn, whatever the word is.
+-- The rule of the word from which numbers of files are drawn: the numbers that the seats have drawn, for any value of the word.
 use Rattle.std.specs.Prelude.{◌≡◌, ℕ, ◌+◌, ◌-◌, ◌^◌, ◌<◌, ◌≤◌, min, List, [], ◌∷◌, ◌++◌, length, slice_index, All, sum_by}
 use mathlib.Core.Option.{some}
 use lib.ListN.{get_elem?}

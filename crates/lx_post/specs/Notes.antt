@@ -18,7 +18,7 @@ abbrev pub is_end : {C : Type 0} → Note C → Bool
 is_end (note_piece worker piece) = false
 is_end (note_end worker files fault) = true
 
--- a piece of the plan's run and one of its files is the plan's piece; an end says nothing of the plan
+-- a piece of the plan's run and one of its files is the plan's piece; an end has no fact about the plan
 abbrev pub IsHonestNote : {C : Type 0} → Making C → Planned → Note C → Type 0
 IsHonestNote made plan (note_piece worker piece) = IsHonestBy made plan piece
 IsHonestNote made plan (note_end worker files fault) = Unit {0}

@@ -13,7 +13,7 @@ use Rattle.lx_reach.specs.Entered.{IsBehind, IsEntered, Initial, Begun}
 use Rattle.lx_reach.specs.Reached.{AreMet}
 use Rattle.lx_reach.proofs.Reaching.{listed, place_of}
 
--- a condition that steps lead to is one of those that are there
+-- a condition that steps lead to is one that exists
 steps_known : (steps : List Step) (condition conditions kinds : ℕ) → condition < conditions → are_steps conditions kinds steps ≡ true → condition_after steps condition < conditions
 steps_known [] condition conditions kinds h is = h
 steps_known (Echo ∷ steps) condition conditions kinds h is = steps_known steps condition conditions kinds h is

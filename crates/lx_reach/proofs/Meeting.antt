@@ -92,7 +92,7 @@ one_only words s v t h = elim (cases_eq t s) [
   | inr g ↦ inl (λ z. h (get_or-set_other words s t v 0 g ∙ z))
 ]
 
--- a state that has a number is there
+-- a state that has a number is in the list
 pub known : (words : List ℕ) (s : ℕ) → slice_index words s ≢ 0 → s < length words
 known [] s h = absurd (h refl)
 known (w ∷ words) zero h = omega arith

@@ -1,4 +1,4 @@
--- Which rules are the choice for some text.
+-- The rules that are the choice for some text.
 use Rattle.std.proofs.Common.{◌≡◌, ℕ, zero, suc, ◌-◌, ◌<◌, ◌≤◌, Bool, true, false, not, List, Option, Some, None, length, take, replicate, slice_index, slice_index_or, refl, sym, ◌∙◌, ap, subst, arith, inl, inr, ◌||◌, nat_lt, if◌then◌else◌}
 use Rattle.std.specs.Option.{option_map, option_or}
 use Rattle.std.proofs.lemmas.Bool.{lt-ltb, ltb-true, true≢false}

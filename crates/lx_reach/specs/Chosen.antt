@@ -13,7 +13,7 @@ pub record IsChosenIn (table : Table) (condition rule : ℕ) : Type 0 where
   pub len : ℕ
   pub choice : choice_of table condition begin text ≡ Some (rule, len)
 
--- It is in some condition.
+-- In some condition it is.
 pub record IsEverChosen (table : Table) (rule : ℕ) : Type 0 where
   pub condition : ℕ
   pub known : condition < length table.machine.starts
@@ -34,7 +34,7 @@ pub record IsChosenBy (spec : PlainSpec) (condition rule : ℕ) : Type 0 where
   pub len : ℕ
   pub choice : IsChoice spec condition begin text (Some (rule, len))
 
--- It is in some condition.
+-- In some condition it is.
 pub record IsEverChosenBy (spec : PlainSpec) (rule : ℕ) : Type 0 where
   pub condition : ℕ
   pub known : condition < length spec.conditions

@@ -29,7 +29,7 @@ pub record IsTarget (m : Machine) (s t : ℕ) : Type 0 where
   pub below : byte < 256
   pub leads : target_of m s byte ≡ Some t
 
--- a text of n bytes at least leads from such a start to the state
+-- a text of at least n bytes leads from such a start to the state
 pub record IsReached (m : Machine) (first end n t : ℕ) : Type 0 where
   pub condition : ℕ
   pub begin : Bool

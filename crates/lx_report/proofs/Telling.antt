@@ -50,7 +50,7 @@ warning_more file kind old mid new h k =
       said = k.is ∙ (ap (λ bs. bs ++ k.more) h.said ∙ (append_assoc old (line ++ h.rest) k.more ∙ ap (λ bs. old ++ bs) (append_assoc line h.rest k.more)));
     }
 
--- the first of some warnings is of a kind that is asked for
+-- the first of some warnings is of an enabled kind
 pub first_is_asked : (asked : KindSet) (told slice more : List WarningTold) (first : WarningTold) → slice ≡ told → slice ≡ first ∷ more → AreAsked asked told → has_kind asked first.kind ≡ true
 first_is_asked asked told slice more first same parts h =
     All-head (λ w. has_kind asked w.kind ≡ true) first more (All-same (λ w. has_kind asked w.kind ≡ true) (first ∷ more) told (sym parts ∙ same) h)

@@ -1,4 +1,4 @@
--- Findings as lines, in the form in which C's compilers have theirs.
+-- Findings as lines, in the form of C's compilers.
 use Rattle.std.specs.Prelude.{ℕ, ◌-◌, ◌==◌, Bool, true, false, nat_lt, if◌then◌else◌, List, [], ◌++◌, codes, decimal, length, take, drop}
 use Rattle.std.specs.List.{flat_map}
 use Rattle.lx_report.specs.Bytes.{shown_byte, source_byte, times}
@@ -13,7 +13,7 @@ shown bytes = flat_map shown_byte bytes
 abbrev pub column_text : ℕ → List ℕ
 column_text column = if column == 0 then [] else codes ":" ++ decimal column
 
--- `:LINE:COLUMN`, as far as they are known
+-- `:LINE:COLUMN`, or the known part of it
 abbrev pub place_text : Place → List ℕ
 place_text place =
     if place.line == 0 then []

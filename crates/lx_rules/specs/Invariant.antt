@@ -52,7 +52,7 @@ are_steps conditions kinds (Begin c ∷ steps) = nat_lt c conditions && are_step
 are_steps conditions kinds (Return k ∷ []) = is_kind kinds k
 are_steps conditions kinds (Return k ∷ step ∷ steps) = false
 
--- the numbers rise, and the last is below the bound
+-- the numbers are in ascending order, and the last is below the bound
 abbrev pub are_rising_below : ℕ → List ℕ → Bool
 are_rising_below most [] = true
 are_rising_below most (c ∷ []) = nat_lt c most

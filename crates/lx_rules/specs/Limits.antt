@@ -19,7 +19,7 @@ max_rules = 4096
 abbrev pub max_name_depth : ℕ
 max_name_depth = 32
 
--- numbers that actions return are below
+-- the bound below which numbers are that actions return
 abbrev pub returned_number_limit : ℕ
 returned_number_limit = 2147483648
 
@@ -31,6 +31,6 @@ max_positions = 16384
 abbrev pub max_reached_sets : ℕ
 max_reached_sets = 16384
 
--- the most kinds that have names: a rule returns one at most
+-- the most kinds that have names: a rule returns at most one
 abbrev pub max_kinds : ℕ
 max_kinds = 4096

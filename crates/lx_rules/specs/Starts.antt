@@ -7,7 +7,7 @@ pub record IsActiveAt (spec : PlainSpec) (rule : PlainRule) (condition : ℕ) (b
   pub active : IsActive spec rule condition
   pub line_begin : IsTrue rule.reading.line_begin → IsTrue begin
 
--- the flags say which rules are active at the start
+-- the flags are true for the rules that are active at the start
 pub record AreActive (spec : PlainSpec) (condition : ℕ) (begin : Bool) (active : List Bool) : Type 0 where
   pub each : (i : ℕ) (rule : PlainRule) → slice_get spec.rules i ≡ Some rule → (slice_index_or active i false ≡ true) ↔ IsActiveAt spec rule condition begin
 

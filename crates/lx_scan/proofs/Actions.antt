@@ -14,7 +14,7 @@ use Rattle.lx_scan.specs.ItemParts.{IsItemOf, IsKindAmong, line_at}
 use Rattle.lx_scan.specs.Items.{steps_at}
 use Rattle.lx_scan.specs.Steps.{condition_after, items_of_steps}
 
--- a condition that steps lead to is one of those that are there
+-- a condition that steps lead to is one that exists
 pub condition_known : (steps : List Step) (condition conditions kinds : ℕ) → condition < conditions → are_steps conditions kinds steps ≡ true → condition_after steps condition < conditions
 condition_known [] condition conditions kinds h is = h
 condition_known (Echo ∷ steps) condition conditions kinds h is = condition_known steps condition conditions kinds h is
@@ -46,7 +46,7 @@ all_or test [] i d all default = default
 all_or test (x ∷ xs) zero d all default = (and_parts (test x) (list_all test xs) all).0
 all_or test (x ∷ xs) (suc i) d all default = all_or test xs i d ((and_parts (test x) (list_all test xs) all).1) default
 
--- the steps at a choice name conditions and kinds that are there
+-- the steps at a choice name conditions and kinds that exist
 pub steps_known : (table : Table) → IsTable table → (choice : Option (ℕ × ℕ)) → are_steps (length table.machine.starts) (length table.kinds) (steps_at table choice) ≡ true
 steps_known table is None = refl
 steps_known table is (Some found) = all_or (λ rule. are_steps (length table.machine.starts) (length table.kinds) rule.steps) table.rules found.0 _ is.steps refl

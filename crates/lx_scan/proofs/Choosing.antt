@@ -74,7 +74,7 @@ module _ (table : Table) (condition : ℕ) (begin : Bool) (text : List ℕ) wher
         greatest = λ k other l a. last.last k other a.within (ends_of k other l a);
       }
 
--- ---- a rule that is answered is there
+-- ---- a rule that is answered exists
 answered_known : (m : Machine) (rules : ℕ) → ((s r : ℕ) → accepted_by m s ≡ Some r → r < rules) → (s : Option ℕ) (rule : ℕ) → accepted_at m s ≡ Some rule → rule < rules
 answered_known m rules known None rule e = absurd (let f : None ≡ Some rule = e in cc)
 answered_known m rules known (Some s) rule e = known s rule e
@@ -83,7 +83,7 @@ token_within : (line_end : Bool) (m : ℕ) → (if line_end then m - 1 else m) �
 token_within true m = omega arith
 token_within false m = omega arith
 
--- the rule that is accepted furthest on is there
+-- the rule that is accepted furthest on exists
 pub accepted_known : (table : Table) → IsTable table → (condition : ℕ) (begin : Bool) (text : List ℕ) (rule read : ℕ) → furthest table condition begin text (length text) ≡ Some (rule, read) → (rule < length table.rules) × (0 < read)
 accepted_known table is condition begin text rule read e =
     let last : IsLast table condition begin text (length text) rule read = subst (λ (o : Option (ℕ × ℕ)). IsFurthest table condition begin text (length text) o) e (furthest_is table condition begin text (length text)) in

@@ -46,8 +46,8 @@ line_behind text line start len is =
     = ap newlines (take-add start len text) ∙ newlines_both (take start text) (take len (drop start text)) in
     omega (arith, both, is)
 
--- ---- a match
--- at a choice some bytes are taken, which are there, and then the condition is one that is there
+-- ---- a match 
+--  a choice takes bytes that exist, and leads to a condition that exists
 pub record Takes (table : Table) (rest : List ℕ) (place : Place) (choice : Option (ℕ × ℕ)) : Type 0 where
   pub some : 0 < len_at choice
   pub within : len_at choice ≤ length rest

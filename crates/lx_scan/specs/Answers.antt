@@ -8,7 +8,7 @@ use Rattle.lx_tables.specs.Model.{Table, rule_at}
 abbrev pub token_len : Table → ℕ → ℕ → ℕ
 token_len table rule m = if (rule_at table rule).line_end then m - 1 else m
 
--- After the first m bytes of the text, one at least, the answer is this rule, and its token has n bytes, one at least.
+-- After the first m bytes of the text, at least one, the answer is this rule. Its token has n bytes, at least one.
 pub record IsAnswered (table : Table) (condition : ℕ) (begin : Bool) (text : List ℕ) (m rule n : ℕ) : Type 0 where
   pub some : 0 < m
   pub within : m ≤ length text
@@ -16,7 +16,7 @@ pub record IsAnswered (table : Table) (condition : ℕ) (begin : Bool) (text : L
   pub len : n ≡ token_len table rule m
   pub token : 0 < n
 
--- the greatest m at which this is so
+-- the greatest such m
 pub record IsGreatest (table : Table) (condition : ℕ) (begin : Bool) (text : List ℕ) (rule n : ℕ) : Type 0 where
   pub m : ℕ
   pub answered : IsAnswered table condition begin text m rule n

@@ -64,7 +64,8 @@ pub record IsPlace (table : Table) (text : List ℕ) (place : Place) : Type 0 wh
   pub line_some : 1 ≤ place.line
   pub line_few : place.line ≤ place.offset + 1
 
--- The matches from a place on end there, and the scanner goes on at the next place: the items from the place on are theirs, and then those from the next place on.
+-- The matches from a place on end there, and the scanner continues at the next place. The items from the place on are theirs, and then those from the
+-- next place on.
 pub record LeadTo (table : Table) (text : List ℕ) (place : Place) (ends : List End) (next : Place) : Type 0 where
   pub are_ends : AreEnds table place.offset ends
   pub is_place : IsPlace table text next

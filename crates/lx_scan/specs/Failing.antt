@@ -7,7 +7,7 @@ use Rattle.lx_tables.specs.Model.{Table}
 use Rattle.lx_scan.specs.declared.memory.FailedState.{FailedState}
 use Rattle.lx_scan.specs.declared.memory.ScanMemory.{ScanMemory}
 
--- From this state on these bytes accept nothing, however many of them are read, one at least.
+-- From this state on, no front of these bytes that has at least one byte is accepted.
 pub record IsFailed (m : Machine) (rest : List ℕ) (state : ℕ) : Type 0 where
   pub silent : (k : ℕ) → 0 < k → k ≤ length rest → answer_from m state (take k rest) ≡ None
 

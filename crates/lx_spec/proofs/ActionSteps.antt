@@ -98,7 +98,7 @@ StatementsRead-unclosed whole d rest read r e positive ks a =
 pub StatementsRead-none : (whole : List Word) (d : ℕ) (rest : List Word) (read : List Statement) → StatementsRead whole d rest read → no_statement ≡ turn_at rest → (ks : List Statement) → AreStatements 0 whole ks → ⊥
 StatementsRead-none whole d rest read r e ks a = let w = r.complete ks a in in_none d rest w.0 w.1 (sym e)
 
--- Words are statements in one way at most.
+-- Words are statements in at most one way.
 pub one_statements : (d : ℕ) (ws : List Word) (ss ts : List Statement) → AreStatements d ws ss → AreStatements d ws ts → ss ≡ ts
 one_statements _ _ _ ts (none ws e) b = let f = in_finished 0 ws ts b e in sym f.1
 one_statements _ _ _ ts (opened d ws rest ss e a) b = one_statements (suc d) rest ss ts a (in_opened d ws rest ts b e)
@@ -136,7 +136,7 @@ pub no_words : (text : List ℕ) → ((ws : List Word) → AreWords text ws → 
 no_words text never _ (a_bar is) = never (bar ∷ []) is
 no_words text never _ (some_statements vs ss is a) = never vs is
 
--- A text is one action at most.
+-- A text is at most one action.
 pub one_action : (text : List ℕ) (a b : Action) → IsAction text a → IsAction text b → a ≡ b
 one_action text _ _ (a_bar is) (a_bar is') = refl
 one_action text _ _ (a_bar is) (some_statements ws ss is' s) =

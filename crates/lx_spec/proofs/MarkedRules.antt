@@ -39,7 +39,7 @@ symbols-undefined b is =
 pub symbols-too_deep : (b : CodeTable) → IsSymbolTable b → (i : ℕ) → IsTrue (is_marked b.faults.now.too_deep.items i) ↔ Follow (IsMention (mentions_in_symbols b)) max_name_depth i
 symbols-too_deep b is = subst (λ (ms : List Mention). (i : ℕ) → IsTrue (is_marked b.faults.now.too_deep.items i) ↔ Follow (IsMention ms) max_name_depth i) is.dictionary.mentions is.faults.too_deep
 
--- the numbers of a row are those of marks
+-- the numbers of a row have marks
 pub row-marks : (b : CodeTable) → IsSymbolTable b → (tree : Regex) (row : List ℕ) (marks marks' : List Bool) → row ≡ row_of (symbols_view b).definitions tree → marks ≡ marks' → length marks' ≡ length (symbols_view b).trees
     → (k : ℕ) → k < length row → slice_index row k < length marks
 row-marks b is tree row marks marks' e f len k less =

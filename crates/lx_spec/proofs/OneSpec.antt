@@ -1,4 +1,4 @@
--- There is one specification that a text without a fault says.
+-- A text without a fault has one specification.
 use Rattle.std.proofs.Common.{◌≡◌, ◌∙◌, ℕ, suc, List, [], ◌∷◌, Option, Some, None, refl, ap, sym, subst}
 use Rattle.lx_ere.specs.Regex.{Regex, Reading}
 use Rattle.lx_ere.specs.Pattern.{IsPattern, IsSubstitute}
@@ -10,7 +10,7 @@ use Rattle.lx_spec.specs.Outcome.{ResolvedRule, IsResolved, AreResolved, IsReach
 use Rattle.lx_spec.specs.Verdict.{SymbolTable}
 use Rattle.lx_spec.proofs.ActionSteps.{one_action}
 
--- The definitions that are reached are listed in one way.
+-- The reached definitions are listed in one way.
 pub one_reached : (R : ℕ → Type 0) (i : ℕ) (raw_definitions : List RawDefinition) (trees : List (Option Regex)) (ds es : List PlainDefinition) → AreReached R i raw_definitions trees ds → AreReached R i raw_definitions trees es → ds ≡ es
 one_reached R _ _ _ _ _ (none i) (none _) = refl
 one_reached R _ _ _ _ _ (reached i d tree raw_definitions trees ds r are) (reached _ _ _ _ _ es q other) = ap (λ (l : List PlainDefinition). record { name = d.name; tree = tree } ∷ l) (one_reached R (suc i) raw_definitions trees ds es are other)
@@ -49,7 +49,7 @@ module _ (unique : (text : List ℕ) (r s : Reading) → IsPattern text r → Is
   one_rule_resolved : (start_conditions : List StartCondition) (raw : RawRule) (s t : ResolvedRule) → IsResolved start_conditions raw s → IsResolved start_conditions raw t → s ≡ t
   one_rule_resolved start_conditions raw s t a b = resolved-same s t (a.conditions ∙ sym b.conditions) (unique raw.pattern s.reading t.reading a.reading b.reading) (one_action raw.action s.action t.action a.action b.action)
 
-  -- Rules say one thing.
+  -- A rule is resolved in one way.
   pub one_resolved : (start_conditions : List StartCondition) (raws : List RawRule) (resolved others : List ResolvedRule) → AreResolved start_conditions raws resolved → AreResolved start_conditions raws others → resolved ≡ others
   one_resolved start_conditions [] [] [] a b = refl
   one_resolved start_conditions [] [] (t ∷ others) a b = absurd b

@@ -1,4 +1,4 @@
--- The rules of a specification name conditions and kinds that are there.
+-- The rules of a specification name conditions and kinds that exist.
 use Rattle.std.proofs.Common.{◌≡◌, ◌∙◌, ℕ, suc, ◌<◌, Bool, true, false, ◌&&◌, not, ◌||◌, nat_lt, nat_eq, List, [], ◌∷◌, length, map, Option, Some, refl, ap, sym, subst, arith}
 use Rattle.std.specs.Prelude.{IsTrue}
 use Rattle.std.specs.List.{list_all, list_any}

@@ -68,7 +68,7 @@ module _ (raw_definitions : List RawDefinition) (trees : List (Option Regex)) (f
   reached-led _ (named_in tree j at in_row) = itself j ((set j).1 (contains-joined (row_of raw_definitions) from tree j at in_row))
   reached-led _ (mentioned i j r m) = along j i (mention-turned (mentions_of raw_definitions trees) j i m) (reached-led i r)
 
-  -- the marks that lead to one of these, along mentions that are turned round
+  -- the marks that lead to one of these, along reversed mentions
   pub led-is_reached : (ms : List Mention) → ms ≡ map turned (mentions_of raw_definitions trees) → (new : List Bool) → ((i : ℕ) → IsTrue (is_marked new i) ↔ Leads ms marks i) → (i : ℕ) → IsTrue (is_marked new i) ↔ IsReached raw_definitions trees from i
   led-is_reached ms e new led i = (
     λ h. led-reached i (subst (λ (l : List Mention). Leads l marks i) e ((led i).0 h)),

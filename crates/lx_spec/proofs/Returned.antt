@@ -143,7 +143,7 @@ pushed-found (k ∷ kinds) text = by (pointwise nat_eq k text) (pushed-found kin
   by true rest = refl
   by false rest = rest
 
--- a name that was added is there
+-- a name that was added is in the list
 with-same : (kinds : List (List ℕ)) (o : Option Value) → with_kind (with_kind kinds o) o ≡ with_kind kinds o
 with-same kinds None = refl
 with-same kinds (Some (number n)) = refl

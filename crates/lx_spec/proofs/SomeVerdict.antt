@@ -1,4 +1,4 @@
--- Every text has a verdict: a first fault, or a specification that it says.
+-- Every text has a verdict: a first fault, or its specification.
 use Rattle.std.proofs.Common.{◌≡◌, ℕ, suc, ◌+◌, ◌≤◌, ◌<◌, ◌⊎◌, inl, inr, false, List, [], ◌∷◌, length, Option, Some, None, Result, Ok, Err, refl, subst, arith, true≢false}
 use Rattle.lx_ere.specs.Regex.{Regex, Reading}
 use Rattle.lx_ere.specs.Pattern.{IsPattern, IsSubstitute}

@@ -56,7 +56,7 @@ Reached-end text rest read r e = subst (AreWords text) (append-nil read) (r.soun
 pub Reached-none : (text rest : List ℕ) (read : List Word) → Reached text rest read → no_word ≡ piece_at rest → (ks : List Word) → AreWords text ks → ⊥
 Reached-none text rest read r e ks a = let w = r.complete ks a in in_none rest w.0 w.1 (sym e)
 
--- A text is words in one way at most.
+-- A text is words in at most one way.
 pub one_words : (text : List ℕ) (ws vs : List Word) → AreWords text ws → AreWords text vs → ws ≡ vs
 one_words _ _ vs (none text e) b = sym (in_ended text vs b e)
 one_words _ _ vs (behind_passed text rest ws e a) b = one_words rest ws vs a (in_passed text rest vs b e)

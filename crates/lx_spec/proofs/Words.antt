@@ -9,12 +9,12 @@ pick_first x y e = ap (λ v. cond v x y) e
 pub pick_second : {A : Type 0} {b : Bool} (x y : A) → b ≡ false → cond b x y ≡ y
 pick_second x y e = ap (λ v. cond v x y) e
 
--- a blank at the end goes
+-- a blank at the end is removed
 pub trimmed-blank : (xs : List ℕ) (c : ℕ) → is_blank c ≡ true → trimmed (xs ++ c ∷ []) ≡ trimmed xs
 trimmed-blank [] c b = pick_first _ _ b
 trimmed-blank (x ∷ xs) c b = ap (keep x) (trimmed-blank xs c b)
 
--- another byte at the end stays, and all before it
+-- another byte at the end remains, and all before it
 pub trimmed-other : (xs : List ℕ) (c : ℕ) → is_blank c ≡ false → trimmed (xs ++ c ∷ []) ≡ xs ++ c ∷ []
 trimmed-other [] c b = pick_second _ _ b
 trimmed-other (x ∷ []) c b = ap (keep x) (trimmed-other [] c b)

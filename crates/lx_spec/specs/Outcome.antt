@@ -28,7 +28,7 @@ numbers_from i (suc n) = i ∷ numbers_from (suc i) n
 abbrev pub contains_number : List ℕ → ℕ → Bool
 contains_number numbers c = list_any (λ k. nat_eq k c) numbers
 
--- the numbers of the conditions that the names mean, rising
+-- the numbers of the conditions that the names mean, in ascending order
 abbrev pub named_conditions : List StartCondition → List (List ℕ) → List ℕ
 named_conditions start_conditions names = filter (contains_number (map (number_or_first start_conditions) names)) (numbers_from 0 (length start_conditions))
 
@@ -95,7 +95,7 @@ abbrev pub kind_of : List (List ℕ) → Value → Kind
 kind_of kinds (name text) = kind.Name (unwrap_or (position (λ k. pointwise nat_eq k text) kinds) 0)
 kind_of kinds (number n) = kind.Number n
 
--- the steps of some statements, up to and with the first return
+-- the steps of some statements, up to the first return and including it
 abbrev pub steps_of : List StartCondition → List (List ℕ) → List Statement → List Step
 steps_of start_conditions kinds [] = []
 steps_of start_conditions kinds (nothing ∷ ss) = steps_of start_conditions kinds ss

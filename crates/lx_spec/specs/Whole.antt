@@ -1,4 +1,4 @@
--- The verdict on a text: its first fault, or the specification that it says.
+-- The verdict on a text: its first fault, or its specification.
 use Rattle.std.specs.Prelude.{◌≡◌, ℕ, ◌<◌, ◌≤◌, List, length, Option, Ok, Err}
 use Rattle.lx_ere.specs.Regex.{Regex}
 use Rattle.lx_rules.specs.Limits.{max_specification_bytes}
@@ -19,7 +19,7 @@ pub data IsFault (text : List ℕ) : SpecFault → Type 0 where
   in_rules : (sections : ParsedSections) (trees : List (Option Regex)) (f : SpecFault) → length text ≤ max_specification_bytes → sections_of text ≡ Ok sections → AreTrees sections.definitions trees →
       IsFirstFault (symbols_of sections trees) (cases sections.rules) f → IsFault text f
 
--- The text has no fault, and this is the specification that it says.
+-- The text has no fault, and this is its specification.
 pub record IsRead (text : List ℕ) (spec : PlainSpec) : Type 0 where
   pub short : length text ≤ max_specification_bytes
   pub sections : ParsedSections

@@ -1,4 +1,4 @@
--- Tables by bytes, each byte a class of its own, which have all that tables have but byte classes.
+-- Tables by bytes, each byte a class of its own. They have all properties of tables except byte classes.
 use Rattle.std.proofs.Common.{ℕ, zero, suc, ◌≡◌, ◌<◌, ◌+◌, ◌*◌, List, ◌++◌, Option, None, length, map, get_or, sym, ◌∙◌, ap, refl, arith}
 use Rattle.std.specs.Prelude.{slice_index}
 use Rattle.std.specs.List.{flat_map, range_with_len}

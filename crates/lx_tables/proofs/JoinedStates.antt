@@ -1,4 +1,4 @@
--- The joined table: its states and their numbers, and its lists as far as they are made.
+-- The joined table: its states and their numbers, and its lists while they are made.
 use Rattle.std.proofs.Common.{◌≡◌, ℕ, zero, suc, ◌+◌, ◌-◌, ◌*◌, ◌/◌, ◌%◌, ◌<◌, ◌≤◌, Bool, true, false, nat_eq, nat_lt, if◌then◌else◌, List, [], ◌∷◌, ◌++◌, Option, Some, None, length, slice_index, slice_index_or, inl, inr, refl, sym, ap, subst, ◌∙◌, arith}
 use Rattle.std.specs.List.{list_all}
 use Rattle.std.proofs.lemmas.Bool.{and_parts, cases_eq, cases_lt, eq-eqb, ltb-true, ne_eqb, true≢false}
@@ -38,7 +38,7 @@ all_or test [] i d all default = default
 all_or test (x ∷ xs) zero d all default = (and_parts (test x) (list_all test xs) all).0
 all_or test (x ∷ xs) (suc i) d all default = all_or test xs i d ((and_parts (test x) (list_all test xs) all).1) default
 
--- a rule leads to a condition that is there
+-- a rule leads to a condition that exists
 pub condition_known : (table : Table) → IsTable table → (rule : Option ℕ) (condition : ℕ) → condition < length table.machine.starts → condition_behind_rule table rule condition < length table.machine.starts
 condition_known table is None condition h = h
 condition_known table is (Some rule) condition h =

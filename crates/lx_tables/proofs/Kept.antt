@@ -36,7 +36,7 @@ next_at_most (j ∷ ks) n k e = at (nat_lt j n) (nat_eq j n) (next_at_most ks n 
     at false true h g e = let l = g e in omega arith
     at false false h g e = let f : None ≡ Some k = e in cc
 
--- steps return one name at most
+-- steps return at most one name
 one_returned : (c k : ℕ) (steps : List Step) → IsTrue (are_steps c k steps) → length (returned_names steps) ≤ 1
 one_returned c k [] h = omega arith
 one_returned c k (Echo ∷ steps) h = one_returned c k steps h

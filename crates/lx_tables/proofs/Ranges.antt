@@ -7,7 +7,7 @@ use Rattle.std.proofs.lemmas.List.FromFn.{length-range_with_len, get_or-range_wi
 use Rattle.lx_automaton.specs.EncodedOptions.{decoded_option}
 use Rattle.lx_tables.specs.Texts.{range_text, ranges_from, ranges_text, byte_ranges, all_bytes, same_value}
 
--- the next byte goes on with the run, or begins another
+-- the next byte continues the run, or begins another
 pub next_byte : (row : List (Option ℕ)) (low at : ℕ) (value : Option ℕ) → 0 < at → at < length row →
     ranges_from low (at - 1) value (drop at row) ≡
     (if same_value value (get_or row at None) then ranges_from low at value (drop (at + 1) row)

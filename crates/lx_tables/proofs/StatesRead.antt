@@ -28,7 +28,7 @@ accepts_long : (o : Option ℕ) → ((r : ℕ) → o ≡ Some r → r < 4096) �
 accepts_long None h = omega arith
 accepts_long (Some r) h = let l = h r refl in let some = decimal_nonempty r (omega arith) in omega arith
 
--- the line of a state has 8 bytes at least
+-- the line of a state has at least 8 bytes
 pub line_long : (o : Option ℕ) (row : List ℕ) → ((r : ℕ) → o ≡ Some r → r < 4096) → 8 ≤ length (codes "state " ++ accepts_text o ++ row ++ codes "\n")
 line_long o row h =
     let rule = accepts_text o in

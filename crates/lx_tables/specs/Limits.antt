@@ -18,7 +18,7 @@ pub record AreKinds (kinds : List (List ℕ)) : Type 0 where
   pub identifiers : IsTrue (list_all is_identifier kinds)
   pub distinct : IsTrue (are_distinct kinds)
 
--- the steps of each rule name conditions and kinds that are there
+-- the steps of each rule name conditions and kinds that exist
 abbrev pub are_rules : ℕ → ℕ → List TableRule → Bool
 are_rules conditions kinds rules = list_all (λ rule. are_steps conditions kinds rule.steps) rules
 
@@ -32,7 +32,7 @@ pub record HasLimits (table : Table) : Type 0 where
 abbrev pub is_start : ℕ → ℕ × ℕ → Bool
 is_start states start = nat_lt start.0 states && nat_lt start.1 states
 
--- the lists are as long as they are to be
+-- the lists have the required lengths
 abbrev pub have_lengths : List (ℕ × ℕ) → List ℕ → ℕ → List ℕ → List ℕ → Bool
 have_lengths starts classes width accepted targets =
     nat_lt 0 (length starts) && (nat_le (length starts) max_start_conditions && (length classes == 256 && (nat_le width 256 && (nat_le (length accepted) max_states && length targets == length accepted * width))))

@@ -12,7 +12,7 @@ abbrev pub value_of : Machine → ByteValues → ℕ → Option ℕ
 value_of m Classes byte = Some (slice_index m.classes byte)
 value_of m (Targets s) byte = target_of m s byte
 
--- the state is there
+-- the state exists
 abbrev pub HasState : Machine → ByteValues → Type 0
 HasState m Classes = Unit {0}
 HasState m (Targets s) = s < state_count m

@@ -12,7 +12,7 @@ IsTextOf table text = (text ≡ text_1 table) ⊎ (text ≡ text_2 table)
 pub record IsNoText (text : List ℕ) : Type 0 where
   pub none : (table : Table) → IsTable table → IsTextOf table text → ⊥
 
--- the table's text of the version that this text says
+-- the table's text of the version that this text has
 abbrev pub own_text : List ℕ → Table → List ℕ
 own_text text table = if slice_index text 10 == 50 then text_2 table else text_1 table
 

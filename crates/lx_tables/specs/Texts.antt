@@ -98,7 +98,7 @@ front_text table =
     ++ count_line (codes "kinds ") (length table.kinds) ++ flat_map kind_line table.kinds
     ++ count_line (codes "rules ") (length table.rules) ++ flat_map rule_line table.rules
 
--- `class` and ranges: of each byte its class
+-- `class` and ranges: the class of each byte
 abbrev pub class_line : Machine → List ℕ
 class_line m = codes "class" ++ byte_ranges (λ b. Some (slice_index m.classes b)) ++ codes "\n"
 

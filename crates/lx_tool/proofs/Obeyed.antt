@@ -193,7 +193,7 @@ module _ {S : Type 0} (gives : S → List ℕ → PlainInput → S → Type 0) (
   later_refused asked order table between later Output h = λ low. absurd (omega (arith, low))
   later_refused asked order table between later Memory h = λ low. absurd (omega (arith, low))
 
-  -- a name in its words can't be read
+  -- a name among its arguments can't be read
   pub rules_unread : (asked : Asked) (name : List ℕ) → Contains (names_asked asked) name → Keeps old new → (failure : Failure) → IsUnread (name ∷ []) failure → HasFailed gives (Some asked) before old new failure
   rules_unread asked name among kept (Specification fault) h = absurd h
   rules_unread asked name among kept (Automaton fault) h = absurd h
@@ -269,11 +269,11 @@ module _ {S : Type 0} (gives : S → List ℕ → PlainInput → S → Type 0) (
   check_refused c text refused kept failure (inl h) = rw h (λ low. absurd (omega (arith, low)))
   check_refused c text refused kept failure (inr h) = check_reported c text refused kept failure h
 
-  -- or its words are
+  -- or its arguments are
   pub warning_refused : (c : PlainCheck) → Keeps old new → (failure : Failure) → (fault : RequestFault) × (failure ≡ Refused fault) × IsWarningFault fault → HasFailed gives (Some (check c)) before old new failure
   warning_refused c kept failure h = rw h.1 (λ low. record { cause = inl h.2; tells = tt; kept = kept })
 
-  -- nothing is known of a word
+  -- the word is unknown
   pub explain_refused : (word : Option (List ℕ)) (failure : Failure) → (status_of failure < 4 → IsUnexplained word failure × Keeps old new) → HasFailed gives (Some (explain word)) before old new failure
   explain_refused word failure h = λ low. let known = (h low).0 in
       rw known.0 (record { cause = subst (IsUnexplained word) known.0 known; tells = tt; kept = (h low).1 })

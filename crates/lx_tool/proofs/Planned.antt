@@ -46,7 +46,7 @@ prefix_by_rules text table inputs old new law is of bytes lists = record {
   wrote = lists.wrote;
 }
 
--- a listing by tables of a specification, in the form that words ask for, is one by its rules
+-- a listing by tables of a specification, in the form of the arguments, is one by its rules
 pub asked_by_rules : (words : PlainFormWords) (text : List ℕ) (table : Table) (names : List (List ℕ)) (inputs : List PlainInput) (old new : Option (List ℕ)) → GiveItems →
     IsTable table → AreTablesOfText text table → AreBytes inputs → ListsAsked words table names inputs old new → ListsByRulesIn words text names inputs old new
 asked_by_rules words text table names inputs old new law is of bytes lists =

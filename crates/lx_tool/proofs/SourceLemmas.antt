@@ -34,7 +34,7 @@ module _ (cut : List (List ℕ)) (files : List NamedBytes) (name : List ℕ) (i 
     not_none equal none_named =
         none_named i (named_input cut d) shown_within (ap (λ (file : List ℕ × PlainInput). file.0) shown_at ∙ is_name equal)
 
-    -- none up to here, and the next one neither
+    -- none up to here, and neither the next one
     pub none_more : same ≡ false → NoneIsNamed (take i (inputs_of cut files)) name → NoneIsNamed (take (i + 1) (inputs_of cut files)) name
     none_more differs none_before =
         let next = slice_index_or (inputs_of cut files) i (named_input cut d) in

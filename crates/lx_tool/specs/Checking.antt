@@ -35,7 +35,7 @@ pub record IsAcceptedText (most : ℕ) (text : List ℕ) : Type 0 where
   pub of_text : IsReportOf most text report
   pub accepted : IsAccepted report
 
--- ---- which warnings are asked for
+-- ---- the warnings that are enabled
 
 -- true if a kind is enabled after a word of `-W`, given its state before
 abbrev pub asked_by_word : WarningKind → Bool → List ℕ → Bool
@@ -49,7 +49,7 @@ abbrev pub asked_by_words : WarningKind → Bool → List (List ℕ) → Bool
 asked_by_words kind was [] = was
 asked_by_words kind was (word ∷ words) = asked_by_words kind (asked_by_word kind was word) words
 
--- a kind is asked for
+-- a kind is enabled
 abbrev pub is_asked : PlainCheck → WarningKind → Bool
 is_asked check kind = asked_by_words kind (is_usual kind) check.warnings
 
@@ -82,7 +82,7 @@ pub record HasErrors (check : PlainCheck) (said : List ℕ) : Type 0 where
   pub word : HasErrorWord check
   pub warning : check.json ≡ false → TellsOne check said
 
--- They gave the text that the words name, whole; it is accepted, and something was said of it.
+-- They gave the text that the arguments name, whole. It is accepted, and a report was written.
 pub record IsChecked {S : Type 0} (gives : S → List ℕ → PlainInput → S → Type 0) (check : PlainCheck) (before after : S) (old new : Option (List ℕ)) : Type 0 where
   pub text : List ℕ
   pub given : gives before check.rules (whole text) after

@@ -44,7 +44,7 @@ pub record AreListedBy {S : Type 0} (gives : S → List ℕ → PlainInput → S
   pub judged : AreJudged order names
   pub listed : AreListed gives (Lists text names) names behind after cut
 
--- The names were read, and the files listed in the form that the words ask for, by these tables.
+-- The names were read, and the files listed in the form of the arguments, by these tables.
 pub record AreListedAs {S : Type 0} (gives : S → List ℕ → PlainInput → S → Type 0) (order : PlainOrder) (table : Table) (before after : S) (old new : Option (List ℕ)) (cut : List (List ℕ)) : Type 0 where
   pub names : List (List ℕ)
   pub behind : S
@@ -97,9 +97,9 @@ HasPlaced gives places same before old new (Some (show s)) = new ≡ old
 HasPlaced gives places same before old new (Some (imports i)) = HasPlacedImport gives places same i before old new
 HasPlaced gives places same before old new None = new ≡ old
 
--- ---- why it is not
+-- ---- failure
 
--- the names of the files that the words list
+-- the names of the files that the arguments list
 abbrev pub files_asked : Asked → List (List ℕ)
 files_asked stored = []
 files_asked (run order) = order.files
@@ -111,11 +111,11 @@ files_asked (explain word) = []
 files_asked (show s) = []
 files_asked (imports i) = []
 
--- the names in the words of a listing: that of the specification or the tables, that of LIST, and those of the files
+-- the names among the arguments of a listing: that of the specification or the tables, that of LIST, and those of the files
 abbrev pub names_of_order : PlainOrder → List (List ℕ)
 names_of_order order = order.rules ∷ (option_map_or (λ list. list.name ∷ []) order.list [] ++ order.files)
 
--- the names of all files that the words name
+-- the names of all files that the arguments name
 abbrev pub names_asked : Asked → List (List ℕ)
 names_asked stored = []
 names_asked (run order) = names_of_order order
@@ -165,7 +165,7 @@ AreWordsRefused order failure =
     ⊎ (((failure ≡ InputTwice) × (1 < input_uses order order.files))
     ⊎ ((fault : RequestFault) × (failure ≡ Refused fault) × IsWordsFault order fault))
 
--- The sources gave the text with the order's first name, whole, which has these tables; and this holds of them then.
+-- The sources gave the text with the order's first name, whole. It has these tables, which have the property then.
 pub record RulesGiven {S : Type 0} (gives : S → List ℕ → PlainInput → S → Type 0) (AreTables : List ℕ → Table → Type 0) (order : PlainOrder) (before : S) (Holds : Table → S → Type 0) : Type 0 where
   pub text : List ℕ
   pub between : S
@@ -190,7 +190,7 @@ IsRefusedLater gives before (imports i) failure = ⊥
 abbrev pub IsTargetRefused : PlainPrint → RequestFault → Type 0
 IsTargetRefused print fault = ((fault ≡ NoTargets) × (print.target ≢ None)) ⊎ ((f : OutputFault) × (fault ≡ Outputs f) × IsOverwritten f print.target print.rules)
 
--- why the text of tables isn't put into a file
+-- the fault for which the text of tables isn't put into a file
 abbrev pub IsPlacingFault : Failure → Type 0
 IsPlacingFault failure = (failure ≡ Refused NoTargets) ⊎ ((failure ≡ Output) ⊎ (failure ≡ Memory))
 
@@ -222,7 +222,7 @@ HasCause gives before asked Memory = ⊥
 
 -- ---- both, by the request, if the arguments make one
 
--- It was done; or they ask for nothing, but for help.
+-- It was carried out; or the arguments make no request except for help.
 abbrev pub HasObeyed : {S : Type 0} → (S → List ℕ → PlainInput → S → Type 0) → S → S → Option (List ℕ) → Option (List ℕ) → List (List ℕ) → Option Asked → Type 0
 HasObeyed gives before after old new cut None = cut ≡ []
 HasObeyed gives before after old new cut (Some asked) = HasDone gives before after old new cut asked

@@ -12,6 +12,6 @@ pub record IsExplained (word : Option (List ℕ)) (old new : Option (List ℕ)) 
   pub wrote : Appends old new said
   pub begins : IfSome word (λ w. starts_with nat_eq said w ≡ true)
 
--- Nothing is known of the word.
+-- The word is unknown.
 abbrev pub IsUnexplained : Option (List ℕ) → Failure → Type 0
 IsUnexplained word failure = (failure ≡ Unprintable Unexplained) × (word ≢ None)

@@ -15,7 +15,7 @@ pub record AreRead {S : Type 0} (gives : S → List ℕ → PlainInput → S →
   pub bytes : AreBytes inputs
   pub cut_are : cut ≡ cut_names names inputs
 
--- The sources gave inputs for these names, in this order, which were listed as `Lists` says; `cut` names those that were cut short.
+-- The sources gave inputs for these names, in this order, which were listed by `Lists`; `cut` names those that were cut short.
 pub record AreListed {S : Type 0} (gives : S → List ℕ → PlainInput → S → Type 0) (Lists : List PlainInput → Type 0) (names : List (List ℕ)) (before after : S) (cut : List (List ℕ)) : Type 0 where
   pub inputs : List PlainInput
   pub read : AreRead gives names before after inputs cut
@@ -81,7 +81,7 @@ FailsListing Cause Part names before after old new (NotRead name) = Contains nam
 FailsListing Cause Part names before after old new Output = Part
 FailsListing Cause Part names before after old new Memory = Keeps old new ⊎ Part
 
--- That listing failed: the part that was written, if any, is as `ListsPrefix` says.
+-- That listing failed: the part that was written, if any, is one by `ListsPrefix`.
 abbrev pub FailsGiven : {S : Type 0} → (S → List ℕ → PlainInput → S → Type 0) → (Failure → Type 0) → (List PlainInput → Option (List ℕ) → Option (List ℕ) → Type 0) → List (List ℕ) → S → S →
     Option (List ℕ) → Option (List ℕ) → Failure → Type 0
 FailsGiven gives Cause ListsPrefix names before after old new failure =

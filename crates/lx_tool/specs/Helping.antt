@@ -1,4 +1,4 @@
--- Words that ask for nothing but the help or the version.
+-- Arguments that ask for nothing except the help or the version.
 use Rattle.std.specs.Prelude.{ℕ, List}
 use Rattle.clap.specs.declared.error.ErrorKind.{ErrorKind}
 use Rattle.lx_cli.specs.CommandLine.{IsFault, IsTold}

@@ -20,7 +20,7 @@ use Rattle.lx_tool.specs.declared.failure.OutputFault.{OutputFault}
 abbrev pub kinds_words : PlainImport → PlainC
 kinds_words i = record { scanner = true; header = false; prefix = i.prefix; include = None; direct = false }
 
--- The text says a specification that has tables, as `gen` prints them: no verdict on it is left.
+-- The text's specification has tables, as `gen` prints them: no verdict on it is left.
 pub record HasTables (text : List ℕ) : Type 0 where
   pub table : Table
   pub of_text : AreTablesOfText text table

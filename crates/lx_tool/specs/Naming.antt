@@ -49,21 +49,21 @@ list_input order = option_map_or (λ list. input_count list.name) order.list 0
 abbrev pub input_uses : PlainOrder → List (List ℕ) → ℕ
 input_uses order names = input_count order.rules + list_input order + inputs_among names
 
--- the sources gave the text of LIST, and it has this
+-- the sources gave the text of LIST, and it has this property
 pub record ListSays {S : Type 0} (gives : S → List ℕ → PlainInput → S → Type 0) (list : PlainList) (before : S) (Says : List ℕ → Type 0) : Type 0 where
   pub text : List ℕ
   pub after : S
   pub given : gives before list.name (whole text) after
   pub says : Says text
 
--- these names are those of the files, and have this
+-- these names are those of the files, and have this property
 pub record FilesHave {S : Type 0} (gives : S → List ℕ → PlainInput → S → Type 0) (order : PlainOrder) (before : S) (Have : List (List ℕ) → Type 0) : Type 0 where
   pub names : List (List ℕ)
   pub after : S
   pub named : AreFileNames gives order before after names
   pub have : Have names
 
--- `--format` isn't given, or is a word that is known
+-- `--format` isn't given, or its word is known
 abbrev pub IsKnownFormat : Option (List ℕ) → Type 0
 IsKnownFormat None = ⊤
 IsKnownFormat (Some word) = (word ≡ codes "json") ⊎ (word ≡ codes "text")
@@ -91,7 +91,7 @@ abbrev pub IsOnly : Table → Option (List ℕ) → Option Selected → Type 0
 IsOnly table None only = only ≡ None
 IsOnly table (Some text) only = IsSomeAnd only (IsChosen table text)
 
--- the form that the words ask for, of files with these names, by these tables
+-- the form that the arguments ask for, of files with these names, by these tables
 pub record IsFormOf (words : PlainFormWords) (table : Table) (names : List (List ℕ)) (form : PlainForm) : Type 0 where
   pub first : form.first ≡ words.first
   pub names_are : form.names ≡ (if words.names then Some (map name_bytes names) else None)
@@ -153,7 +153,7 @@ IsListingRefused gives order table before Memory = ⊤
 
 -- ---- each of them, by the step at which it is rejected
 
--- `--format` has a word that isn't known
+-- `--format` has an unknown word
 abbrev pub IsFormatFault : PlainFormWords → RequestFault → Type 0
 IsFormatFault words (NoFormat word) = (words.format ≡ Some word.now) × (word.now ≢ codes "json") × (word.now ≢ codes "text")
 IsFormatFault words NoFile = ⊥

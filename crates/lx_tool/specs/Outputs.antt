@@ -16,7 +16,7 @@ IsApart same targets output name = MatchOption output ⊤ (λ file. same targets
 abbrev pub AreApart : {T : Type 0} → (T → List ℕ → List ℕ → Bool → Type 0) → T → PlainImport → Type 0
 AreApart same targets i = MatchOption i.target ⊤ (λ file. MatchOption i.actions ⊤ (λ actions. same targets file actions false))
 
--- They answered so of each output of `import` and its input, and of its two outputs.
+-- They gave this answer for each output of `import` and its input, and for its two outputs.
 pub record AreImportsApart {T : Type 0} (same : T → List ℕ → List ℕ → Bool → Type 0) (targets : T) (i : PlainImport) : Type 0 where
   pub target : IsApart same targets i.target i.rules
   pub actions : IsApart same targets i.actions i.rules

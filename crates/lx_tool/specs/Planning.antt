@@ -77,7 +77,7 @@ pub record ListsPrefixByText (text : List ℕ) (inputs : List PlainInput) (old n
   pub of_text : IsTextOf table text
   pub listed : ListsPrefixBy table inputs old new
 
--- ---- in the form that words ask for
+-- ---- in the form that arguments ask for
 
 -- This form of the items of these files by the tables was written.
 pub record ListsIn (form : PlainForm) (table : Table) (inputs : List PlainInput) (old new : Option (List ℕ)) : Type 0 where

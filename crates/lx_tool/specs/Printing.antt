@@ -24,7 +24,7 @@ use Rattle.lx_tool.specs.declared.failure.PrintFault.TheVariants.{Numbers, Reser
 use Rattle.lx_tool.specs.declared.failure.RequestFault.{RequestFault}
 use Rattle.lx_tool.specs.declared.failure.RequestFault.TheVariants.{NoScanner, NoTargets, Scanner, ScannerAndHeader}
 
--- ---- the words on a scanner in C
+-- ---- the arguments for a scanner in C
 
 -- true if it, or its declarations, are printed
 abbrev pub is_in_c : PlainC → Bool
@@ -66,7 +66,7 @@ IsWritten target text old new = MatchOption target (Wrote old new text) (λ name
 abbrev pub IsPlaced : {T : Type 0} → (T → List ℕ → List ℕ → T → Type 0) → Option (List ℕ) → List ℕ → T → T → Type 0
 IsPlaced places target text old new = MatchOption target (new ≡ old) (λ name. places old name text new)
 
--- The kinds can be printed so, and the text was written, unless there is a file for it.
+-- The kinds can be printed, and the text was written, unless there is a file for it.
 pub record WritesTables (c : PlainC) (o : Options) (table : Table) (target : Option (List ℕ)) (old new : Option (List ℕ)) : Type 0 where
   pub kinds : kinds_fault c o table ≡ None
   pub written : IsWritten target (printed_text c o table) old new
@@ -101,7 +101,7 @@ pub record PrintsTables (c : PlainC) (text printed : List ℕ) : Type 0 where
   pub of_text : IsTextOf table text
   pub prints : IsTextPrinted c [] table printed
 
--- ---- kinds that can be none in C
+-- ---- kinds that can't be names in C
 
 abbrev pub kind_named : Table → ℕ → List ℕ
 kind_named table number = slice_index_or table.kinds number []

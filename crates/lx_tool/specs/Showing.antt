@@ -25,14 +25,14 @@ max_shown = 200
 abbrev pub begins_as_tables : List ℕ → Bool
 begins_as_tables text = starts_with nat_eq text (codes "lx-tables ")
 
--- these tables are the specification's that the text says, and these names its conditions'
+-- these tables are those of the text's specification, and these names are its conditions'
 pub record AreShownOfSpecification (text : List ℕ) (table : Table) (names : List (List ℕ)) : Type 0 where
   pub spec : PlainSpec
   pub read : IsRead text spec
   pub of_spec : AreTablesOf spec table
   pub names_are : names ≡ condition_names spec
 
--- The tables that are shown of a text, and the names of their conditions, which tables have not.
+-- The tables that are shown of a text, and the names of their conditions. Tables have no such names.
 abbrev pub AreShown : List ℕ → Table → List (List ℕ) → Type 0
 AreShown text table names =
     ((begins_as_tables text ≡ true) × AreTablesIn text table × (names ≡ []))
@@ -56,11 +56,11 @@ pub record IsTooLargeToShow (all : Bool) (text : List ℕ) (failure : Failure) :
   pub shown : AreShown text table names
   pub many : HasManyStates all table failure
 
--- why nothing is shown of a text
+-- the cause for which nothing is shown of a text
 abbrev pub IsNotShown : PlainShow → List ℕ → Failure → Type 0
 IsNotShown show text failure = HasNoneShown text failure ⊎ IsTooLargeToShow show.all text failure
 
--- They gave the text that the words name, whole, and its graph was written.
+-- They gave the text that the arguments name, whole, and its graph was written.
 pub record IsShown {S : Type 0} (gives : S → List ℕ → PlainInput → S → Type 0) (show : PlainShow) (before after : S) (old new : Option (List ℕ)) : Type 0 where
   pub text : List ℕ
   pub given : gives before show.rules (whole text) after

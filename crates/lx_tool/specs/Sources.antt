@@ -54,7 +54,7 @@ is_among (known ∷ names) name = bytes_eq known name || is_among names name
 abbrev pub named_input : List (List ℕ) → Bor (List ℕ) × Bor (List ℕ) → List ℕ × PlainInput
 named_input cut file = (file.0.now, record { bytes = file.1.now; cut = is_among cut file.0.now })
 
--- files of names and bytes, all whole but those with one of these names
+-- files of names and bytes, all whole except those with one of these names
 abbrev pub inputs_of : List (List ℕ) → List (Bor (List ℕ) × Bor (List ℕ)) → List (List ℕ × PlainInput)
 inputs_of cut files = map (named_input cut) files
 

@@ -1,4 +1,4 @@
--- Why a command is not done, and the exit statuses of the program.
+-- The causes for which a command fails, and the exit statuses of the program.
 use Rattle.std.specs.Prelude.{ℕ, List, Option, Some, None, MatchOption, length, ◌<◌, ◌≡◌, ◌≢◌, ◌⊎◌, ⊤}
 use Rattle.std.specs.Io.KnownBytes.{Appends, Keeps}
 use Rattle.clap.specs.declared.error.kind.ErrorKind.TheVariants as kind
@@ -21,7 +21,7 @@ use Rattle.lx_tool.specs.declared.failure.PrintFault.{PrintFault}
 use Rattle.lx_tool.specs.declared.failure.PrintFault.TheVariants.{Numbers, Reserved, Declared, TooManyForCode, TooManyStates, Unexplained, NotImported, Reported}
 use Rattle.lx_tool.specs.declared.failure.RequestFault.TheVariants.{NoKind, EmptyKind, NoTargets}
 
--- the exit status of a command that is not done
+-- the exit status of a command that fails
 abbrev pub status_of : Failure → ℕ
 status_of (Specification fault) = 1
 status_of (Automaton fault) = 1
@@ -79,7 +79,7 @@ failure_of_choice (choice.NoKind word) = Refused (NoKind word)
 failure_of_choice choice.NoName = Refused EmptyKind
 failure_of_choice choice.Memory = Memory
 
--- why a text isn't put into a file
+-- the failure of a command whose text isn't put into a file
 abbrev pub failure_of_target : TargetFault → Failure
 failure_of_target target.NotServed = Refused NoTargets
 failure_of_target target.NotWritten = Output

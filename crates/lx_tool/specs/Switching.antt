@@ -8,7 +8,7 @@ use Rattle.lx_warnings.specs.declared.kinds.WarningKind.{WarningKind}
 use Rattle.lx_cli.specs.CommandLine.{PlainCheck}
 use Rattle.lx_tool.specs.Checking.{asked_by_word, is_asked}
 
--- A kind has this name, and is in the new set or not; and all others are as they were.
+-- A kind has this name, and is in the new set if `is_in` is true. All others are as they were.
 pub record IsSwitched (name : List ℕ) (is_in : Bool) (old new : KindSet) : Type 0 where
   pub kind : WarningKind
   pub named : name ≡ name_text kind
@@ -18,6 +18,6 @@ pub record IsSwitched (name : List ℕ) (is_in : Bool) (old new : KindSet) : Typ
 pub record IsAskedBehind (word : List ℕ) (old new : KindSet) : Type 0 where
   pub each : (kind : WarningKind) → has_kind new kind ≡ asked_by_word kind (has_kind old kind) word
 
--- The set has the kinds that are asked for.
+-- The set has the enabled kinds.
 pub record AreKindsAsked (check : PlainCheck) (kinds : KindSet) : Type 0 where
   pub each : (kind : WarningKind) → has_kind kinds kind ≡ is_asked check kind

@@ -11,7 +11,7 @@ use Rattle.lx_tables.specs.Reading.{IsTextOf}
 use Rattle.lx_tool.specs.declared.failure.Failure.{Failure}
 use Rattle.lx_tool.specs.declared.failure.Failure.TheVariants.{Specification, Automaton, Tables, Unprintable, Words, TooManyFiles, InputTwice, Refused, NotRead, Output, Memory}
 
--- Tables of the specification that a text says.
+-- Tables of the text's specification.
 pub record AreTablesOfText (text : List ℕ) (tables : Table) : Type 0 where
   pub spec : PlainSpec
   pub read : IsRead text spec
@@ -21,7 +21,7 @@ pub record AreTablesOfText (text : List ℕ) (tables : Table) : Type 0 where
 abbrev pub AreTablesIn : List ℕ → Table → Type 0
 AreTablesIn text table = IsTable table × IsTextOf table text
 
--- The text says a specification that is too large: of positions, or of reached sets.
+-- The text's specification is too large: it has too many positions, or too many reached sets.
 pub record IsTooLarge (text : List ℕ) (fault : BuildFault) : Type 0 where
   pub spec : PlainSpec
   pub read : IsRead text spec
