@@ -1,4 +1,4 @@
-"""What lists texts in the place of `lx scan`: the drivers of drivers/, which read tables, and the scanners that `lx gen --c` prints."""
+"""Lists texts in the place of `lx scan`: by the drivers of drivers/, which read tables, and by the scanners that `lx gen --c` prints."""
 import pathlib
 import unittest
 

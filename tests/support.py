@@ -1,4 +1,4 @@
-"""What the tests share: built programs, folders, tools, limits, and a result that counts each check.
+"""Runs programs for the tests, makes their folders, finds their tools, and counts each check.
 
 A module of tests ends with `support.main(..)`, so that `python3 -m tests.test_NAME` runs it. Its last line is `N passed, M failed`, and its status is 1 if
 a check failed. `python3 -m unittest` runs the same modules and counts whole tests.

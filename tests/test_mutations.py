@@ -218,7 +218,7 @@ def try_import(runs, options):
 
 
 def try_flex_file(runs, specification):
-    """What is brought over is accepted, and nothing is made if something isn't."""
+    """`gen` accepts what `import` prints, and a refusal makes no file."""
     runs.write("S", specification)
     for options in ([], ["--lossy"]):
         try_import(runs, options)
