@@ -189,7 +189,7 @@ def parser(description):
 
 
 def end_by_signal(*_):
-    # unittest takes no other exception for a wish to end; at the exit the temporary folders are removed
+    # For unittest each other exception is a failed test. The temporary folders are removed at the exit.
     raise KeyboardInterrupt
 
 
@@ -199,5 +199,9 @@ def main(options_parser=None, options=None):
     signal.signal(signal.SIGTERM, end_by_signal)
     sys.stdout.reconfigure(line_buffering=True)
     tally = Tally()
-    unittest.defaultTestLoader.loadTestsFromModule(sys.modules["__main__"]).run(tally)
+    try:
+        unittest.defaultTestLoader.loadTestsFromModule(sys.modules["__main__"]).run(tally)
+    except KeyboardInterrupt:
+        tally.failed += 1
+        print("FAILED: ended by a signal before all tests had run")
     sys.exit(tally.end())

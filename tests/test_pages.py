@@ -6,7 +6,6 @@ docs/POSIX.md and docs/PROVED.md and the map in docs/ARCHITECTURE.md are compare
 """
 import ast
 import os
-import pathlib
 import re
 import shutil
 import subprocess

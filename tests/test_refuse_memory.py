@@ -15,7 +15,6 @@ A line is printed for each case: how often memory was refused, and the seconds.
 """
 import concurrent.futures
 import os
-import pathlib
 import re
 import shutil
 import subprocess

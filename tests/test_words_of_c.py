@@ -95,6 +95,7 @@ class WordsOfC(Case):
         return modes
 
     def test_words(self):
+        support.built()
         modes, table = self.known_modes(), table_of_words()
         words, newer = sorted({*KEYWORDS, *OTHERS, *table}), []
         with concurrent.futures.ThreadPoolExecutor(OPTIONS.jobs) as pool:
