@@ -34,8 +34,9 @@ class Causes(Case):
             self.assertEqual(lx("explain", cause).returncode, 0, f"the status of lx explain {cause}")
 
     def test_examples(self):
-        path = self.make_folder() / "spec.l"
-        for example in ("\n" + (TESTS / "causes.txt").read_text()).split("\n" + MARK)[1:]:
+        path, examples = self.make_folder() / "spec.l", ("\n" + (TESTS / "causes.txt").read_text()).split("\n" + MARK)[1:]
+        self.assertTrue(examples)
+        for example in examples:
             head, _, text = example.partition("\n")
             with self.subTest(head):
                 self.try_example(head, text.rstrip("\n") + "\n", path)

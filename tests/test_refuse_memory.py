@@ -354,8 +354,10 @@ class RefuseMemory(Case):
             ended = support.lx("run", f"{code}.l", "a", cwd=self.folder, text=True)
             self.assertTrue(ended.stderr.startswith(f"lx: {code}"), f"{code}.l is answered by {ended.stderr!r}")
         trials = [Trial(" ".join(["lx", *words]), (program, *words)) for words in commands(self.folder)] + calls(support.built("lx_calls"))
+        chosen = [trial for trial in trials if OPTIONS.only in trial.name]
+        self.assertTrue(chosen, "there is no such case")
         with concurrent.futures.ProcessPoolExecutor(OPTIONS.jobs) as pool:
-            refused = sum(self.try_one(pool, trial) for trial in trials if OPTIONS.only in trial.name)
+            refused = sum(self.try_one(pool, trial) for trial in chosen)
         print(f"{refused} runs with memory refused")
 
     def test_memory_is_used_again(self):

@@ -95,6 +95,7 @@ class Threads(Case):
             print(f"-j {WORKERS} -b {kind.batch:<3} on {kind.processors} processors: {len(seconds)} runs, {min(seconds):.2f} to {max(seconds):.2f} seconds each")
 
     def test_runs(self):
+        self.assertGreater(min(OPTIONS.runs, OPTIONS.files), 0, "there has to be a run and a file")
         for batch in BATCHES:
             self.assertEqual(self.scan(1, batch), "", f"lx scan -j 1 -b {batch}")
         size = sum(path.stat().st_size for path in self.files)
