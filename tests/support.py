@@ -25,6 +25,9 @@ SHOWN_FAILURES = 20
 
 # drivers/ has the modules `lx` and `lx_c`, and bench/ has `inputs`.
 sys.path[:0] = [str(TOP / "drivers"), str(TOP / "bench")]
+# `make test` hands these on, and a make that a test starts would heed them.
+for variable in ("MAKEFLAGS", "MFLAGS", "MAKELEVEL"):
+    os.environ.pop(variable, None)
 
 
 def built(crate="lx"):
