@@ -209,19 +209,24 @@ def names_of_tests():
     return {name for path in TOP.glob("crates/*_tests/src/*.rt") for name in re.findall(r"#\[test\]\s*fn (\w+)", path.read_text())}
 
 
+def exports_of(text):
+    """Returns the names that a source exports by `pub use`."""
+    found = re.findall(r"pub use (?:crate::)?\w+(?:::\w+)*?(?:::\{([^}]*)\}|::(\w+));", text)
+    return {name.strip() for inner, alone in found for name in (inner or alone).split(",")}
+
+
 class Proved(Case):
     """docs/PROVED.md speaks of each public function and each trait of the libraries."""
 
     # These promise nothing but their types: they make a value of a kind, or give back what it was made of.
     PLAIN = {"new", "of"}
     FOR_TESTS = re.compile(r"\w+_tests|lx_fixtures|lx_calls|lx_plain")
-    EXPORT = re.compile(r"pub use (?:crate::)?\w+(?:::\w+)*?(?:::\{([^}]*)\}|::(\w+));")
 
     def names_of(self, crate):
         """Returns the functions and traits that the root of a crate exports, or that its public modules have."""
         source = TOP / "crates" / crate / "src"
         root = (source / "lib.rt").read_text()
-        exported = {name.strip() for inner, alone in self.EXPORT.findall(root) for name in (inner or alone).split(",")}
+        exported = exports_of(root)
         for module in re.findall(r"^pub mod (\w+);", root, re.M):
             exported |= set(re.findall(r"^pub (?:fn|trait) (\w+)", (source / f"{module}.rt").read_text(), re.M))
         declared = {name for path in source.rglob("*.rt") for name in re.findall(r"^pub (?:fn|trait) (\w+)", path.read_text(), re.M)}
@@ -245,12 +250,12 @@ class CrateNames(Case):
     """The pages name crates, and calls of crates, that are there."""
 
     DECLARED = re.compile(r"\b(?:fn|struct|enum|trait|mod|const|type|static) (\w+)")
+
     def names_in(self, crate):
         """Returns what the sources of a crate declare or export."""
         sources = list((TOP / "crates" / crate / "src").rglob("*.rt"))
         text = "\n".join(path.read_text() for path in sources)
-        exported = {name.strip() for inner, alone in re.findall(r"pub use [\w:]+?(?:::\{([^}]*)\}|::(\w+));", text) for name in (inner or alone).split(",")}
-        return {path.stem for path in sources} | set(self.DECLARED.findall(text)) | exported
+        return {path.stem for path in sources} | set(self.DECLARED.findall(text)) | exports_of(text)
 
     def test_names(self):
         crates = {name: self.names_in(name) for name in crates_of((TOP / "crates.txt").read_text())}
