@@ -1,4 +1,4 @@
-# What the scripts of this folder have in common: a program is run once, and what it took is told.
+# Runs a program once for the scripts of this folder, and tells what it took.
 import collections
 import math
 import os

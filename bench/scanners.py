@@ -1,5 +1,4 @@
-# What the scripts that compare programs have in common: scanners are built by flex and re2c, what they list has to be what lx lists, and instructions
-# are counted.
+# Builds scanners by flex and re2c for the scripts that compare programs, compares their listings with those of lx, and counts instructions.
 import filecmp
 import itertools
 import re
@@ -18,7 +17,7 @@ COMPILER = ["gcc", "-O3", "-march=x86-64-v2"]
 
 
 class Failed(Exception):
-    """What is wrong, in a line."""
+    """A fault, said in a line."""
 
 
 def want_tools(script, tools):
@@ -67,7 +66,7 @@ def instructions(command, folder):
 
 
 def instructions_a_byte(commands, one, two, folder):
-    """Of each command, with the text behind it: those for two MB less those for one MB, so that what is done once isn't seen."""
+    """Counts the instructions of a command for two MB of text less those for one MB, so that what is done once isn't seen."""
     size = two.stat().st_size - one.stat().st_size
     counted = {name: [instructions([*command, text], folder) for text in (one, two)] for name, command in commands.items()}
     return {name: (more - less) / size for name, (less, more) in counted.items()}

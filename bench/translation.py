@@ -306,7 +306,7 @@ def pattern_text(pattern):
 
 
 def listing_text(rule):
-    """What is done with the bytes from `start` to `end`. A newline in a token is counted as it is listed."""
+    """Returns the code for the bytes from `start` to `end`. A newline in a token is counted as it is listed."""
     if rule.action.kind:
         return f'LIST("T {rule.action.kind}", start, end);'
     return "count_lines(start, end);" if may_hold_newline(rule.pattern) else ""

@@ -1,4 +1,4 @@
-"""What the drivers are tried on: specifications with texts, those of examples/ and random ones, and damaged texts of tables."""
+"""Makes what the drivers are tried on: specifications with texts, those of examples/ and random ones, and damaged texts of tables."""
 import dataclasses
 import random
 
