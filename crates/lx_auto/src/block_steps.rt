@@ -14,14 +14,16 @@ use std::alloc::{AllocError, Global};
 impl Block<'_> {
     // Returns true if a position of the block is marked.
     fn is_touched(&self, marks: &[bool]) -> bool
-        ensures { result ≡ false → (q : ℕ) → self.now.base ≤ q → q < self.now.base + self.now.count → plain.flag marks.now q ≡ false }
+        ensures { result ≡ false → (q : ℕ) → self.now.base ≤ q → q < self.now.base + self.now.count
+            → plain.flag marks.now q ≡ false }
     {
         has_flag(marks, self.base, self.count)
     }
 
     // Tests, for a sequence, if a marked position can be its last one: its last position is marked.
     fn find_last(&self, alloc: Global, marks: &[bool]) -> Result<Vec<bool>, AllocError>
-        ensures { IfOk result (λ ends. ends.items ≡ plain.flag marks.now (self.now.base + self.now.count - 1) ∷ []) }
+        ensures { IfOk result
+            (λ ends. ends.items ≡ plain.flag marks.now (self.now.base + self.now.count - 1) ∷ []) }
     {
         let last = (self.base + self.count).saturating_sub(1);
         let mut ends = Vec::new(alloc);
@@ -32,7 +34,8 @@ impl Block<'_> {
     // Tests for each node if a marked position can be the last one in it. The result has only the last node of a sequence. It is empty if no position
     // of the block is marked.
     fn find_ends(&self, alloc: Global, marks: &[bool]) -> Result<Vec<bool>, AllocError>
-        ensures { (e : Unfolded) → IsBlock self.now e → IfOk result (λ ends. HasEnds marks.now ends.items self.now e) }
+        ensures { (e : Unfolded) → IsBlock self.now e
+            → IfOk result (λ ends. HasEnds marks.now ends.items self.now e) }
     {
         if !self.is_touched(marks) {
             return Ok(Vec::new(alloc));
@@ -47,7 +50,8 @@ impl Block<'_> {
 
     // Marks the next positions of a sequence: its first position if it is entered, and each other one after a marked position.
     fn read_sequence(&self, marks: &[bool], entered: bool, reads: &mut Vec<bool>)
-        ensures set { reads.new.items ≡ shifted marks.now entered self.now.base self.now.count reads.old.items }
+        ensures set { reads.new.items
+            ≡ shifted marks.now entered self.now.base self.now.count reads.old.items }
         ensures long { length reads.new.items ≡ length reads.old.items }
     {
         let mut rest = self.count;
@@ -69,7 +73,9 @@ impl Block<'_> {
         entered: bool,
         reads: &mut Vec<bool>,
     ) -> Result<(), AllocError>
-        ensures set { (e : Unfolded) → IsBlock self.now e → HasEnds marks.now ends.now self.now e → IsClear reads.old.items self.now.base (self.now.base + self.now.count) → OnOk result (reads.new.items ≡ read_list marks.now e entered self.now.base reads.old.items) }
+        ensures set { (e : Unfolded) → IsBlock self.now e → HasEnds marks.now ends.now self.now e
+            → IsClear reads.old.items self.now.base (self.now.base + self.now.count) → OnOk result
+            (reads.new.items ≡ read_list marks.now e entered self.now.base reads.old.items) }
         ensures long { OnOk result (length reads.new.items ≡ length reads.old.items) }
     {
         if !entered && ends.is_empty() {
@@ -124,7 +130,10 @@ pub(crate) fn read_blocks(
     reads: &mut Vec<bool>,
 ) -> Result<(), AllocError>
     requires { length ends.now ≡ length blocks.now }
-    ensures set { (es : List Unfolded) (k : ℕ) → AreBlocks blocks.now es k → HaveEnds marks.now blocks.now ends.now (length blocks.now) → IsClear reads.old.items k (k + outlines.positions_of es) → OnOk result (reads.new.items ≡ outlines.read_blocks marks.now entered.now es 0 k reads.old.items) }
+    ensures set { (es : List Unfolded) (k : ℕ) → AreBlocks blocks.now es k
+        → HaveEnds marks.now blocks.now ends.now (length blocks.now)
+        → IsClear reads.old.items k (k + outlines.positions_of es) → OnOk result
+        (reads.new.items ≡ outlines.read_blocks marks.now entered.now es 0 k reads.old.items) }
     ensures long { OnOk result (length reads.new.items ≡ length reads.old.items) }
 {
     let mut rest = blocks.len();

@@ -28,9 +28,12 @@ fn draft(alloc: Global, spec: &Spec) -> Result<Draft, BuildFault>
     ensures automaton { IfOk result (λ a. IsAutomatonOf (spec_view spec.now) a) }
     ensures led_to { IfOk result (λ a. AreAllLedTo a) }
     ensures few_positions { IfOk result (λ _. count_of_spec (spec_view spec.now) ≤ max_positions) }
-    ensures few_sets { IfOk result (λ _. HasMoreReachedSets (spec_view spec.now) max_reached_sets → ⊥) }
-    ensures positions { IfErr result (λ e. e ≡ BuildFault.TooManyPositions → HasTooManyPositions (spec_view spec.now)) }
-    ensures sets { IfErr result (λ e. e ≡ BuildFault.TooManySets → HasTooManySets (spec_view spec.now)) }
+    ensures few_sets { IfOk result
+        (λ _. HasMoreReachedSets (spec_view spec.now) max_reached_sets → ⊥) }
+    ensures positions { IfErr result
+        (λ e. e ≡ BuildFault.TooManyPositions → HasTooManyPositions (spec_view spec.now)) }
+    ensures sets { IfErr result
+        (λ e. e ≡ BuildFault.TooManySets → HasTooManySets (spec_view spec.now)) }
 {
     specs_are_well_formed();
     let positions = positions_of(alloc, spec)?;
@@ -51,9 +54,12 @@ pub fn build(alloc: Global, spec: &Spec) -> Result<Automaton, BuildFault>
     ensures automaton { IfOk result (λ a. IsAutomatonOf (spec_view spec.now) a) }
     ensures led_to { IfOk result (λ a. AreAllLedTo a) }
     ensures few_positions { IfOk result (λ _. count_of_spec (spec_view spec.now) ≤ max_positions) }
-    ensures few_sets { IfOk result (λ _. HasMoreReachedSets (spec_view spec.now) max_reached_sets → ⊥) }
-    ensures positions { IfErr result (λ e. e ≡ BuildFault.TooManyPositions → HasTooManyPositions (spec_view spec.now)) }
-    ensures sets { IfErr result (λ e. e ≡ BuildFault.TooManySets → HasTooManySets (spec_view spec.now)) }
+    ensures few_sets { IfOk result
+        (λ _. HasMoreReachedSets (spec_view spec.now) max_reached_sets → ⊥) }
+    ensures positions { IfErr result
+        (λ e. e ≡ BuildFault.TooManyPositions → HasTooManyPositions (spec_view spec.now)) }
+    ensures sets { IfErr result
+        (λ e. e ≡ BuildFault.TooManySets → HasTooManySets (spec_view spec.now)) }
 {
     let draft = draft(alloc, spec)?;
     let automaton = with_byte_classes(alloc, &draft)?;

@@ -60,7 +60,8 @@ fn outline_nodes<'s>(
     placeholder_set: &'s ByteSet,
     nullable: bool,
 ) -> Result<Vec<Node<'s>>, AllocError>
-    ensures { IfOk result (λ nodes. nodes_view nodes.items ≡ nodes_of (outline_of_block placeholder_set.now nullable)) }
+    ensures { IfOk result (λ nodes.
+        nodes_view nodes.items ≡ nodes_of (outline_of_block placeholder_set.now nullable)) }
 {
     let mut outline = Vec::new(alloc);
     outline.push(Node::Leaf(placeholder_set))?;
@@ -102,7 +103,8 @@ fn join_outlined<'s>(
     mut left: Outlined<'s>,
     right: Outlined<'s>,
 ) -> Result<Outlined<'s>, AllocError>
-    ensures { (a b : Unfolded) → IsOutlinedOf left.entry a → IsOutlinedOf right.entry b → IfOk result (λ o. IsOutlinedOf o (binary_expression operator a b)) }
+    ensures { (a b : Unfolded) → IsOutlinedOf left.entry a → IsOutlinedOf right.entry b
+        → IfOk result (λ o. IsOutlinedOf o (binary_expression operator a b)) }
 {
     let node = binary_node(operator, right.outline.len());
     left.outline.extend_from_slice(&right.outline)?;
@@ -117,7 +119,8 @@ fn join_single_blocks<'s>(
     mut left: SingleBlock<'s>,
     right: SingleBlock<'s>,
 ) -> Result<SingleBlock<'s>, AllocError>
-    ensures { (a b : Unfolded) → IsSingleBlockOf left.entry a → IsSingleBlockOf right.entry b → IfOk result (λ w. IsSingleBlockOf w (binary_expression operator a b)) }
+    ensures { (a b : Unfolded) → IsSingleBlockOf left.entry a → IsSingleBlockOf right.entry b
+        → IfOk result (λ w. IsSingleBlockOf w (binary_expression operator a b)) }
 {
     let node = binary_node(operator, right.nodes.len());
     left.nodes.extend_from_slice(&right.nodes)?;
@@ -128,7 +131,8 @@ fn join_single_blocks<'s>(
 
 // Makes the outline of an expression with a first block.
 fn outline_growing<'s>(alloc: Global, growing: GrowingChunk<'s>) -> Result<Outlined<'s>, AllocError>
-    ensures { (e : Unfolded) → IsGrowingChunkOf growing.entry e → IfOk result (λ o. IsOutlinedOf o e) }
+    ensures { (e : Unfolded) → IsGrowingChunkOf growing.entry e
+        → IfOk result (λ o. IsOutlinedOf o e) }
 {
     let first = outline_single_block(alloc, growing.first)?;
     join_outlined(growing.operator, first, growing.rest)
@@ -171,7 +175,8 @@ fn prepend<'s>(
     first: SingleBlock<'s>,
     rest: Outlined<'s>,
 ) -> GrowingChunk<'s>
-    ensures { (a b : Unfolded) → IsSingleBlockOf first.entry a → IsOutlinedOf rest.entry b → IsGrowingChunkOf result (binary_expression operator a b) }
+    ensures { (a b : Unfolded) → IsSingleBlockOf first.entry a → IsOutlinedOf rest.entry b
+        → IsGrowingChunkOf result (binary_expression operator a b) }
 {
     GrowingChunk {
         operator,
@@ -187,7 +192,8 @@ fn prepend_to_growing<'s>(
     left: SingleBlock<'s>,
     right: GrowingChunk<'s>,
 ) -> Result<GrowingChunk<'s>, AllocError>
-    ensures { (a b : Unfolded) → IsSingleBlockOf left.entry a → IsGrowingChunkOf right.entry b → IfOk result (λ l. IsGrowingChunkOf l (binary_expression operator a b)) }
+    ensures { (a b : Unfolded) → IsSingleBlockOf left.entry a → IsGrowingChunkOf right.entry b
+        → IfOk result (λ l. IsGrowingChunkOf l (binary_expression operator a b)) }
 {
     if !are_same(right.operator, operator) || !fit_together(&left, &right.first) {
         let rest = outline_growing(alloc, right)?;
@@ -208,7 +214,8 @@ fn join_small<'s>(
     left: SingleBlock<'s>,
     right: Chunk<'s>,
 ) -> Result<Chunk<'s>, AllocError>
-    ensures { (a b : Unfolded) → IsSingleBlockOf left.entry a → IsChunkOf right.entry b → IfOk result (λ p. IsChunkOf p (binary_expression operator a b)) }
+    ensures { (a b : Unfolded) → IsSingleBlockOf left.entry a → IsChunkOf right.entry b
+        → IfOk result (λ p. IsChunkOf p (binary_expression operator a b)) }
 {
     match right {
         Chunk::Small(second) => {
@@ -234,7 +241,8 @@ fn join_large<'s>(
     left: Outlined<'s>,
     right: Chunk<'s>,
 ) -> Result<Chunk<'s>, AllocError>
-    ensures { (a b : Unfolded) → IsOutlinedOf left.entry a → IsChunkOf right.entry b → IfOk result (λ p. IsChunkOf p (binary_expression operator a b)) }
+    ensures { (a b : Unfolded) → IsOutlinedOf left.entry a → IsChunkOf right.entry b
+        → IfOk result (λ p. IsChunkOf p (binary_expression operator a b)) }
 {
     let second = outlined(alloc, right)?;
     let joined = join_outlined(operator, left, second)?;
@@ -248,7 +256,8 @@ fn join<'s>(
     left: Chunk<'s>,
     right: Chunk<'s>,
 ) -> Result<Chunk<'s>, AllocError>
-    ensures { (a b : Unfolded) → IsChunkOf left.entry a → IsChunkOf right.entry b → IfOk result (λ p. IsChunkOf p (binary_expression operator a b)) }
+    ensures { (a b : Unfolded) → IsChunkOf left.entry a → IsChunkOf right.entry b
+        → IfOk result (λ p. IsChunkOf p (binary_expression operator a b)) }
 {
     match left {
         Chunk::Small(first) => join_small(alloc, operator, first, right),
@@ -265,7 +274,8 @@ fn extend_single_block<'s>(
     operator: UnaryOperator,
     mut block: SingleBlock<'s>,
 ) -> Result<SingleBlock<'s>, AllocError>
-    ensures { (a : Unfolded) → IsSingleBlockOf block.entry a → IfOk result (λ w. IsSingleBlockOf w (unary_expression operator a)) }
+    ensures { (a : Unfolded) → IsSingleBlockOf block.entry a
+        → IfOk result (λ w. IsSingleBlockOf w (unary_expression operator a)) }
 {
     block.nodes.push(unary_node(operator))?;
     block.nullable = unary_null(operator, block.nullable);
@@ -277,7 +287,8 @@ fn extend_outlined<'s>(
     operator: UnaryOperator,
     mut body: Outlined<'s>,
 ) -> Result<Outlined<'s>, AllocError>
-    ensures { (a : Unfolded) → IsOutlinedOf body.entry a → IfOk result (λ o. IsOutlinedOf o (unary_expression operator a)) }
+    ensures { (a : Unfolded) → IsOutlinedOf body.entry a
+        → IfOk result (λ o. IsOutlinedOf o (unary_expression operator a)) }
 {
     body.outline.push(unary_node(operator))?;
     Ok(body)
@@ -289,7 +300,8 @@ fn extend<'s>(
     operator: UnaryOperator,
     body: Chunk<'s>,
 ) -> Result<Chunk<'s>, AllocError>
-    ensures { (a : Unfolded) → IsChunkOf body.entry a → IfOk result (λ p. IsChunkOf p (unary_expression operator a)) }
+    ensures { (a : Unfolded) → IsChunkOf body.entry a
+        → IfOk result (λ p. IsChunkOf p (unary_expression operator a)) }
 {
     match body {
         Chunk::Small(block) => {
@@ -323,7 +335,8 @@ fn leaf_chunk<'s>(alloc: Global, set: &'s ByteSet) -> Result<Chunk<'s>, AllocErr
 
 // Removes the last expression.
 fn pop_chunk<'s>(chunks: &mut Vec<Chunk<'s>>) -> Option<Chunk<'s>>
-    ensures { (trees : List Unfolded) → AreChunks (reverse chunks.old.items) trees → IsPopped trees (reverse chunks.new.items) result }
+    ensures { (trees : List Unfolded) → AreChunks (reverse chunks.old.items) trees
+        → IsPopped trees (reverse chunks.new.items) result }
 {
     chunks.pop()
 }
@@ -334,7 +347,9 @@ fn add_binary<'s>(
     operator: BinaryOperator,
     chunks: &mut Vec<Chunk<'s>>,
 ) -> Result<(), AllocError>
-    ensures { (trees : List Unfolded) → AreChunks (reverse chunks.old.items) trees → OnOk result (AreChunks (reverse chunks.new.items) (binary_step (binary_expression operator) trees)) }
+    ensures { (trees : List Unfolded) → AreChunks (reverse chunks.old.items) trees
+        → OnOk result (AreChunks (reverse chunks.new.items)
+        (binary_step (binary_expression operator) trees)) }
 {
     let Some(right) = pop_chunk(chunks) else {
         return Ok(());
@@ -353,7 +368,8 @@ fn add_unary<'s>(
     operator: UnaryOperator,
     chunks: &mut Vec<Chunk<'s>>,
 ) -> Result<(), AllocError>
-    ensures { (trees : List Unfolded) → AreChunks (reverse chunks.old.items) trees → OnOk result (AreChunks (reverse chunks.new.items) (unary_step (unary_expression operator) trees)) }
+    ensures { (trees : List Unfolded) → AreChunks (reverse chunks.old.items) trees → OnOk result
+        (AreChunks (reverse chunks.new.items) (unary_step (unary_expression operator) trees)) }
 {
     let Some(body) = pop_chunk(chunks) else {
         return Ok(());
@@ -369,7 +385,8 @@ fn add_node<'s>(
     node: &Node<'s>,
     chunks: &mut Vec<Chunk<'s>>,
 ) -> Result<(), AllocError>
-    ensures { (trees : List Unfolded) → AreChunks (reverse chunks.old.items) trees → OnOk result (AreChunks (reverse chunks.new.items) (tree_step (node_view node.now) trees)) }
+    ensures { (trees : List Unfolded) → AreChunks (reverse chunks.old.items) trees → OnOk result
+        (AreChunks (reverse chunks.new.items) (tree_step (node_view node.now) trees)) }
 {
     match *node {
         Node::Leaf(set) => {
@@ -386,7 +403,8 @@ fn add_node<'s>(
 
 // Returns the expressions that the nodes form.
 fn chunks_of<'s>(alloc: Global, nodes: &[Node<'s>]) -> Result<Vec<Chunk<'s>>, AllocError>
-    ensures { IfOk result (λ chunks. AreChunks (reverse chunks.items) (plain.trees_from (nodes_view nodes.now) [])) }
+    ensures { IfOk result
+        (λ chunks. AreChunks (reverse chunks.items) (plain.trees_from (nodes_view nodes.now) [])) }
 {
     let mut chunks = Vec::new(alloc);
     for node in nodes {
@@ -397,7 +415,8 @@ fn chunks_of<'s>(alloc: Global, nodes: &[Node<'s>]) -> Result<Vec<Chunk<'s>>, Al
 
 // Splits an expression into blocks wherever it has too many nodes for one.
 fn split_by_size<'s>(alloc: Global, nodes: &[Node<'s>]) -> Result<Outlined<'s>, AllocError>
-    ensures { (e : Unfolded) → nodes_view nodes.now ≡ nodes_of e → IsSimplified e → IfOk result (λ o. IsSplitOf o e) }
+    ensures { (e : Unfolded) → nodes_view nodes.now ≡ nodes_of e → IsSimplified e
+        → IfOk result (λ o. IsSplitOf o e) }
 {
     let mut chunks = chunks_of(alloc, nodes)?;
     match pop_chunk(&mut chunks) {
@@ -415,7 +434,8 @@ fn keep_single_block<'s>(
     placeholder_set: &'s ByteSet,
     nodes: &[Node<'s>],
 ) -> Result<Outlined<'s>, AllocError>
-    ensures { (e : Unfolded) → nodes_view nodes.now ≡ nodes_of e → HasNoEmptyPart e → IfOk result (λ o. IsOutlinedOf o e) }
+    ensures { (e : Unfolded) → nodes_view nodes.now ≡ nodes_of e → HasNoEmptyPart e
+        → IfOk result (λ o. IsOutlinedOf o e) }
 {
     let nulls = nulls_of(alloc, nodes)?;
     let nullable = flag(&nulls, nulls.len().saturating_sub(1));
@@ -433,7 +453,8 @@ pub(crate) fn split_into_blocks<'s>(
     alloc: Global,
     nodes: &[Node<'s>],
 ) -> Result<Outlined<'s>, AllocError>
-    ensures { (e : Unfolded) → nodes_view nodes.now ≡ nodes_of e → IsSimplified e → IfOk result (λ o. IsSplitOf o e) }
+    ensures { (e : Unfolded) → nodes_view nodes.now ≡ nodes_of e → IsSimplified e
+        → IfOk result (λ o. IsSplitOf o e) }
 {
     let apart = split_by_size(alloc, nodes)?;
     if nodes.len() <= BLOCK || apart.outline.len() <= nodes.len() / 2 {

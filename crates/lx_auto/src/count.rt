@@ -47,7 +47,8 @@ fn product(copies: u32, count: u32) -> u32
 
 // Counts the positions of an expression, given those of the definitions. A definition that isn't among them has none.
 fn count(expr: &Expr, names: &Names<'_>, counts: &[u32]) -> u32
-    ensures { result ≡ min (max_positions + 1) (count_in (looked_up names.now.definitions.now counts.now) (regex_of expr.now)) }
+    ensures { result ≡ min (max_positions + 1)
+        (count_in (looked_up names.now.definitions.now counts.now) (regex_of expr.now)) }
 {
     match expr {
         Expr::Nil => 0,
@@ -73,7 +74,8 @@ fn count_at(counts: &[u32], number: usize) -> u32
 
 // Counts the positions of each definition, given the counts of its names.
 fn next_counts(alloc: Global, names: &Names<'_>, counts: &[u32]) -> Result<Vec<u32>, AllocError>
-    ensures { IfOk result (λ next. next.items ≡ counts_behind names.now.definitions.now counts.now) }
+    ensures { IfOk result
+        (λ next. next.items ≡ counts_behind names.now.definitions.now counts.now) }
 {
     let mut next = Vec::new(alloc);
     for definition in names.definitions {
@@ -107,7 +109,9 @@ fn newline_count(line_end: bool) -> u32
 /// Counts the positions of these rules, given those of the definitions.
 pub(crate) fn count_rules(rules: &[Rule], names: &Names<'_>, counts: &[u32]) -> u32
     requires { counts.now ≡ counts_at names.now.definitions.now 31 }
-    ensures { result ≡ min (max_positions + 1) (count_of_rules (map definition_view names.now.definitions.now) (map rule_view rules.now)) }
+    ensures { result
+        ≡ min (max_positions + 1) (count_of_rules (map definition_view names.now.definitions.now)
+        (map rule_view rules.now)) }
 {
     let mut total = 0;
     for rule in rules {

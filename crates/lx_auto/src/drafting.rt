@@ -55,7 +55,8 @@ fn encoded_accepted(
     matched: &[Option<usize>],
 ) -> Result<Vec<u16>, AllocError>
     requires { AreAllBelow matched.now max_rules }
-    ensures { IfOk result (λ encoded. map decoded_option encoded.items ≡ replicate starts None ++ matched.now) }
+    ensures { IfOk result
+        (λ encoded. map decoded_option encoded.items ≡ replicate starts None ++ matched.now) }
 {
     let mut encoded = vec![in alloc; 0u16; starts]?;
     for rule in matched {
@@ -72,7 +73,8 @@ fn encoded_targets(
 ) -> Result<Vec<u16>, AllocError>
     requires starts { starts ≤ 2 * max_start_conditions }
     requires sets { AreAllBelow targets.now max_reached_sets }
-    ensures { IfOk result (λ encoded. map decoded_option encoded.items ≡ map (option_map (λ j. starts + j)) targets.now) }
+    ensures { IfOk result (λ encoded.
+        map decoded_option encoded.items ≡ map (option_map (λ j. starts + j)) targets.now) }
 {
     let mut encoded = Vec::with_capacity(alloc, targets.len())?;
     for set in targets {
@@ -91,8 +93,12 @@ pub(crate) fn draft_of(
     requires conditions { conditions ≤ max_start_conditions }
     requires rules { AreAllBelow explored.now.matched.items max_rules }
     requires sets { AreAllBelow explored.now.targets.items max_reached_sets }
-    requires machine { (m : Machine) → IsDrafted conditions groups.now.classes.items (length groups.now.representatives.items) explored.now.matched.items explored.now.targets.items m → IsMachine m }
-    ensures { IfOk result (λ draft. IsDrafted conditions groups.now.classes.items (length groups.now.representatives.items) explored.now.matched.items explored.now.targets.items draft) }
+    requires machine { (m : Machine)
+        → IsDrafted conditions groups.now.classes.items (length groups.now.representatives.items)
+        explored.now.matched.items explored.now.targets.items m → IsMachine m }
+    ensures { IfOk result (λ draft.
+        IsDrafted conditions groups.now.classes.items (length groups.now.representatives.items)
+        explored.now.matched.items explored.now.targets.items draft) }
 {
     let starts = start_states(alloc, conditions)?;
     let classes = Vec::from_slice(alloc, &groups.classes)?;

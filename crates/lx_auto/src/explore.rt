@@ -46,7 +46,8 @@ fn positions_with_byte(
     byte: u8,
     from: &[u16],
 ) -> Result<PositionSet, AllocError>
-    ensures { IfOk result (λ set. set.items ≡ plain.positions_with_byte (leaves_view leaves.now) byte from.now) }
+    ensures { IfOk result
+        (λ set. set.items ≡ plain.positions_with_byte (leaves_view leaves.now) byte from.now) }
 {
     let mut set = SmallVec::new(alloc);
     for position in from {
@@ -71,10 +72,20 @@ fn add_target(
     requires room { length table.old.sets.items ≤ limit }
     ensures numbering { OnOk result (IsNumbering table.new.sets.items table.new.numbers) }
     ensures room { OnOk result (length table.new.sets.items ≤ limit) }
-    ensures extended_by { OnOk result (IsExtendedBy table.old.sets.items table.new.sets.items (plain.positions_with_byte (leaves_view leaves.now) byte from.now)) }
-    ensures fresh { OnOk result (length table.new.sets.items ≡ length table.old.sets.items ⊎ (plain.positions_with_byte (leaves_view leaves.now) byte from.now ≢ []) × ((i : ℕ) → i < length table.old.sets.items → set_of table.old.sets.items i ≢ plain.positions_with_byte (leaves_view leaves.now) byte from.now)) }
-    ensures target { OnOk result (AddsTarget table.new.sets.items targets.old.items targets.new.items (plain.positions_with_byte (leaves_view leaves.now) byte from.now)) }
-    ensures many { IfErr result (λ e. e ≡ BuildFault.TooManySets → (length table.old.sets.items ≡ limit) × (plain.positions_with_byte (leaves_view leaves.now) byte from.now ≢ []) × ((i : ℕ) → i < length table.old.sets.items → set_of table.old.sets.items i ≢ plain.positions_with_byte (leaves_view leaves.now) byte from.now)) }
+    ensures extended_by { OnOk result (IsExtendedBy table.old.sets.items table.new.sets.items
+        (plain.positions_with_byte (leaves_view leaves.now) byte from.now)) }
+    ensures fresh { OnOk result (length table.new.sets.items ≡ length table.old.sets.items
+        ⊎ (plain.positions_with_byte (leaves_view leaves.now) byte from.now ≢ [])
+        × ((i : ℕ) → i < length table.old.sets.items → set_of table.old.sets.items i
+        ≢ plain.positions_with_byte (leaves_view leaves.now) byte from.now)) }
+    ensures target { OnOk result (AddsTarget table.new.sets.items targets.old.items
+        targets.new.items (plain.positions_with_byte (leaves_view leaves.now) byte from.now)) }
+    ensures many { IfErr result (λ e.
+        e ≡ BuildFault.TooManySets → (length table.old.sets.items ≡ limit)
+        × (plain.positions_with_byte (leaves_view leaves.now) byte from.now ≢ [])
+        × ((i : ℕ) → i < length table.old.sets.items → set_of table.old.sets.items i
+        ≢ plain.positions_with_byte (leaves_view leaves.now) byte
+        from.now)) }
     ensures few { IfErr result (λ e. e ≢ BuildFault.TooManyPositions) }
 {
     let Ok(set) = positions_with_byte(alloc, leaves, byte, from) else {
@@ -126,10 +137,16 @@ fn target_of(
     requires room { length table.old.sets.items ≤ limit }
     ensures numbering { OnOk result (IsNumbering table.new.sets.items table.new.numbers) }
     ensures room { OnOk result (length table.new.sets.items ≤ limit) }
-    ensures extended_by { OnOk result (IsExtendedBy table.old.sets.items table.new.sets.items set.items) }
-    ensures fresh { OnOk result (length table.new.sets.items ≡ length table.old.sets.items ⊎ (set.items ≢ []) × ((i : ℕ) → i < length table.old.sets.items → set_of table.old.sets.items i ≢ set.items)) }
+    ensures extended_by { OnOk result
+        (IsExtendedBy table.old.sets.items table.new.sets.items set.items) }
+    ensures fresh { OnOk result (length table.new.sets.items ≡ length table.old.sets.items
+        ⊎ (set.items ≢ []) × ((i : ℕ) → i < length table.old.sets.items
+        → set_of table.old.sets.items i ≢ set.items)) }
     ensures target { IfOk result (λ t. IsTarget table.new.sets.items t set.items) }
-    ensures many { IfErr result (λ e. e ≡ BuildFault.TooManySets → (length table.old.sets.items ≡ limit) × (set.items ≢ []) × ((i : ℕ) → i < length table.old.sets.items → set_of table.old.sets.items i ≢ set.items)) }
+    ensures many { IfErr result (λ e.
+        e ≡ BuildFault.TooManySets → (length table.old.sets.items ≡ limit) × (set.items ≢ [])
+        × ((i : ℕ) → i < length table.old.sets.items
+        → set_of table.old.sets.items i ≢ set.items)) }
     ensures few { IfErr result (λ e. e ≢ BuildFault.TooManyPositions) }
 {
     if set.is_empty() {
@@ -159,12 +176,26 @@ pub(crate) fn add_row(
     ensures numbering { OnOk result (IsNumbering table.new.sets.items table.new.numbers) }
     ensures room { OnOk result (length table.new.sets.items ≤ limit) }
     ensures more { OnOk result (length table.old.sets.items ≤ length table.new.sets.items) }
-    ensures long { OnOk result (length targets.new.items ≡ length targets.old.items + length representatives.now) }
+    ensures long { OnOk result
+        (length targets.new.items ≡ length targets.old.items + length representatives.now) }
     ensures few { IfErr result (λ e. e ≢ BuildFault.TooManyPositions) }
-    ensures kept { OnOk result ((i : ℕ) → i < length table.old.sets.items → set_of table.new.sets.items i ≡ set_of table.old.sets.items i) }
-    ensures reached { (spec : PlainSpec) (tree_of : Regex → Unfolded) (state : ℕ) → IsRowOf spec tree_of (leaves_view leaves.now) representatives.now state from.now table.old.sets.items targets.old.items → OnOk result (AreReachedSets spec (numbered tree_of 0 spec.rules) table.new.sets.items) }
-    ensures steps { (spec : PlainSpec) (tree_of : Regex → Unfolded) (state : ℕ) → IsRowOf spec tree_of (leaves_view leaves.now) representatives.now state from.now table.old.sets.items targets.old.items → OnOk result (HaveSteps spec (numbered tree_of 0 spec.rules) (leaves_view leaves.now) representatives.now table.new.sets.items targets.new.items ((state + 1) * length representatives.now)) }
-    ensures many { (spec : PlainSpec) (tree_of : Regex → Unfolded) (state : ℕ) → IsRowOf spec tree_of (leaves_view leaves.now) representatives.now state from.now table.old.sets.items targets.old.items → IfErr result (λ e. e ≡ BuildFault.TooManySets → HasMoreSets spec (numbered tree_of 0 spec.rules) limit) }
+    ensures kept { OnOk result ((i : ℕ) → i < length table.old.sets.items
+        → set_of table.new.sets.items i ≡ set_of table.old.sets.items i) }
+    ensures reached { (spec : PlainSpec) (tree_of : Regex → Unfolded) (state : ℕ)
+        → IsRowOf spec tree_of (leaves_view leaves.now) representatives.now state from.now
+        table.old.sets.items targets.old.items
+        → OnOk result (AreReachedSets spec (numbered tree_of 0 spec.rules) table.new.sets.items) }
+    ensures steps { (spec : PlainSpec) (tree_of : Regex → Unfolded) (state : ℕ)
+        → IsRowOf spec tree_of (leaves_view leaves.now) representatives.now state from.now
+        table.old.sets.items targets.old.items
+        → OnOk result (HaveSteps spec (numbered tree_of 0 spec.rules) (leaves_view leaves.now)
+        representatives.now table.new.sets.items targets.new.items
+        ((state + 1) * length representatives.now)) }
+    ensures many { (spec : PlainSpec) (tree_of : Regex → Unfolded) (state : ℕ)
+        → IsRowOf spec tree_of (leaves_view leaves.now) representatives.now state from.now
+        table.old.sets.items targets.old.items → IfErr result (λ e.
+        e ≡ BuildFault.TooManySets
+        → HasMoreSets spec (numbered tree_of 0 spec.rules) limit) }
 {
     for class in 0..representatives.len() {
         add_target(
@@ -197,8 +228,18 @@ fn add_start(
     ensures numbering { OnOk result (IsNumbering table.new.sets.items table.new.numbers) }
     ensures room { OnOk result (length table.new.sets.items ≤ limit) }
     ensures few { IfErr result (λ e. e ≢ BuildFault.TooManyPositions) }
-    ensures explored { (tree_of : Regex → Unfolded) → ArePositionsOf (spec_view spec.now) tree_of positions.now → IsExploredBy (spec_view spec.now) tree_of positions.now table.old.sets.items targets.old.items (start_number condition at_line_begin) → OnOk result (IsExploredBy (spec_view spec.now) tree_of positions.now table.new.sets.items targets.new.items (start_number condition at_line_begin + 1)) }
-    ensures many { (tree_of : Regex → Unfolded) → ArePositionsOf (spec_view spec.now) tree_of positions.now → IsExploredBy (spec_view spec.now) tree_of positions.now table.old.sets.items targets.old.items (start_number condition at_line_begin) → IfErr result (λ e. e ≡ BuildFault.TooManySets → HasMoreSets (spec_view spec.now) (numbered tree_of 0 (spec_view spec.now).rules) limit) }
+    ensures explored { (tree_of : Regex → Unfolded)
+        → ArePositionsOf (spec_view spec.now) tree_of positions.now
+        → IsExploredBy (spec_view spec.now) tree_of positions.now table.old.sets.items
+        targets.old.items (start_number condition at_line_begin)
+        → OnOk result (IsExploredBy (spec_view spec.now) tree_of positions.now table.new.sets.items
+        targets.new.items (start_number condition at_line_begin + 1)) }
+    ensures many { (tree_of : Regex → Unfolded)
+        → ArePositionsOf (spec_view spec.now) tree_of positions.now
+        → IsExploredBy (spec_view spec.now) tree_of positions.now table.old.sets.items
+        targets.old.items (start_number condition at_line_begin) → IfErr result (λ e.
+        e ≡ BuildFault.TooManySets → HasMoreSets (spec_view spec.now)
+        (numbered tree_of 0 (spec_view spec.now).rules) limit) }
 {
     let Ok(active) = active_rules(alloc, spec, condition, at_line_begin) else {
         return Err(BuildFault::Memory);
@@ -241,15 +282,34 @@ fn add_set_row(
     ensures numbering { OnOk result (IsNumbering table.new.sets.items table.new.numbers) }
     ensures room { OnOk result (length table.new.sets.items ≤ limit) }
     ensures more { OnOk result (length table.old.sets.items ≤ length table.new.sets.items) }
-    ensures kept { OnOk result ((i : ℕ) → i < length table.old.sets.items → set_of table.new.sets.items i ≡ set_of table.old.sets.items i) }
+    ensures kept { OnOk result ((i : ℕ) → i < length table.old.sets.items
+        → set_of table.new.sets.items i ≡ set_of table.old.sets.items i) }
     ensures few { IfErr result (λ e. e ≢ BuildFault.TooManyPositions) }
-    ensures matched { (spec : PlainSpec) (tree_of : Regex → Unfolded) → ArePositionsOf spec tree_of positions.now → IfOk result (λ found. IsEarliestMatched (numbered tree_of 0 spec.rules) (set_of table.old.sets.items number) found) }
+    ensures matched { (spec : PlainSpec) (tree_of : Regex → Unfolded)
+        → ArePositionsOf spec tree_of positions.now → IfOk result (λ found.
+        IsEarliestMatched (numbered tree_of 0 spec.rules)
+        (set_of table.old.sets.items number) found) }
     ensures long_marks { OnOk result (length marks.new.items ≡ length marks.old.items) }
     ensures long_reads { OnOk result (length reads.new.items ≡ length reads.old.items) }
     ensures clear_marks { OnOk result ((q : ℕ) → plain_flags.flag marks.new.items q ≡ false) }
-    ensures clear_reads { (spec : PlainSpec) (tree_of : Regex → Unfolded) → ArePositionsOf spec tree_of positions.now → ((q : ℕ) → plain_flags.flag reads.old.items q ≡ false) → OnOk result ((q : ℕ) → plain_flags.flag reads.new.items q ≡ false) }
-    ensures explored { (spec : PlainSpec) (tree_of : Regex → Unfolded) → ArePositionsOf spec tree_of positions.now → ((q : ℕ) → plain_flags.flag reads.old.items q ≡ false) → IsExploredBy spec tree_of positions.now table.old.sets.items targets.old.items (start_count spec + number) → OnOk result (IsExploredBy spec tree_of positions.now table.new.sets.items targets.new.items (start_count spec + number + 1)) }
-    ensures many { (spec : PlainSpec) (tree_of : Regex → Unfolded) → ArePositionsOf spec tree_of positions.now → ((q : ℕ) → plain_flags.flag reads.old.items q ≡ false) → IsExploredBy spec tree_of positions.now table.old.sets.items targets.old.items (start_count spec + number) → IfErr result (λ e. e ≡ BuildFault.TooManySets → HasMoreSets spec (numbered tree_of 0 spec.rules) limit) }
+    ensures clear_reads { (spec : PlainSpec) (tree_of : Regex → Unfolded)
+        → ArePositionsOf spec tree_of positions.now
+        → ((q : ℕ) → plain_flags.flag reads.old.items q ≡ false)
+        → OnOk result ((q : ℕ) → plain_flags.flag reads.new.items q ≡ false) }
+    ensures explored { (spec : PlainSpec) (tree_of : Regex → Unfolded)
+        → ArePositionsOf spec tree_of positions.now
+        → ((q : ℕ) → plain_flags.flag reads.old.items q ≡ false)
+        → IsExploredBy spec tree_of positions.now table.old.sets.items targets.old.items
+        (start_count spec + number)
+        → OnOk result (IsExploredBy spec tree_of positions.now table.new.sets.items
+        targets.new.items (start_count spec + number + 1)) }
+    ensures many { (spec : PlainSpec) (tree_of : Regex → Unfolded)
+        → ArePositionsOf spec tree_of positions.now
+        → ((q : ℕ) → plain_flags.flag reads.old.items q ≡ false)
+        → IsExploredBy spec tree_of positions.now table.old.sets.items targets.old.items
+        (start_count spec + number) → IfErr result (λ e.
+        e ≡ BuildFault.TooManySets
+        → HasMoreSets spec (numbered tree_of 0 spec.rules) limit) }
 {
     let set = table.sets[number].as_slice();
     let Ok(found) = follow(alloc, &positions.parts, rules_at, set, marks, reads) else {
@@ -282,8 +342,13 @@ pub(crate) fn explore(
 ) -> Result<Explored, BuildFault>
     ensures room { IfOk result (λ explored. length explored.table.sets.items ≤ limit) }
     ensures few { IfErr result (λ e. e ≢ BuildFault.TooManyPositions) }
-    ensures explored { (tree_of : Regex → Unfolded) → ArePositionsOf (spec_view spec.now) tree_of positions.now → IfOk result (λ explored. AreStatesOf (spec_view spec.now) tree_of positions.now explored) }
-    ensures many { (tree_of : Regex → Unfolded) → ArePositionsOf (spec_view spec.now) tree_of positions.now → IfErr result (λ e. e ≡ BuildFault.TooManySets → HasMoreSets (spec_view spec.now) (numbered tree_of 0 (spec_view spec.now).rules) limit) }
+    ensures explored { (tree_of : Regex → Unfolded)
+        → ArePositionsOf (spec_view spec.now) tree_of positions.now → IfOk result
+        (λ explored. AreStatesOf (spec_view spec.now) tree_of positions.now explored) }
+    ensures many { (tree_of : Regex → Unfolded)
+        → ArePositionsOf (spec_view spec.now) tree_of positions.now → IfErr result (λ e.
+        e ≡ BuildFault.TooManySets → HasMoreSets (spec_view spec.now)
+        (numbered tree_of 0 (spec_view spec.now).rules) limit) }
 {
     let mut table = empty_table(alloc);
     let mut targets = Vec::new(alloc);

@@ -22,7 +22,9 @@ fn unfold_fragment<'s>(
     expr: &'s Expr,
 ) -> Result<Fragment<'s>, AllocError>
     requires { AreFragments names.now.definitions.now fragments.now }
-    ensures { IfOk result (λ f. Unfolds (map definition_view names.now.definitions.now) 32 (regex_of expr.now) [] (nodes_view f.nodes.items) f.part) }
+    ensures { IfOk result (λ f.
+        Unfolds (map definition_view names.now.definitions.now) 32 (regex_of expr.now) []
+        (nodes_view f.nodes.items) f.part) }
 {
     let mut nodes = Vec::new(alloc);
     let part = unfold(names, fragments, 32, expr, &mut nodes)?;

@@ -37,12 +37,20 @@ pub(crate) fn follow(
     requires few { length reads.old.items ≤ 65536 }
     requires long { length marks.old.items ≡ length reads.old.items }
     requires clear { (q : ℕ) → plain.flag marks.old.items q ≡ false }
-    ensures next { (spec : PlainSpec) (rules : List NumberedRule) → AreNumbered spec rules → ArePartsOf parts.now rules (length reads.old.items) → ((q : ℕ) → plain.flag reads.old.items q ≡ false) → IfOk result (λ found. AreFollowing rules set.now found.next.items) }
-    ensures matched { (spec : PlainSpec) (rules : List NumberedRule) → AreNumbered spec rules → ArePartsOf parts.now rules (length reads.old.items) → IfOk result (λ found. IsEarliestMatched rules set.now found.matched) }
+    ensures next { (spec : PlainSpec) (rules : List NumberedRule) → AreNumbered spec rules
+        → ArePartsOf parts.now rules (length reads.old.items)
+        → ((q : ℕ) → plain.flag reads.old.items q ≡ false)
+        → IfOk result (λ found. AreFollowing rules set.now found.next.items) }
+    ensures matched { (spec : PlainSpec) (rules : List NumberedRule) → AreNumbered spec rules
+        → ArePartsOf parts.now rules (length reads.old.items)
+        → IfOk result (λ found. IsEarliestMatched rules set.now found.matched) }
     ensures long_marks { OnOk result (length marks.new.items ≡ length marks.old.items) }
     ensures long_reads { OnOk result (length reads.new.items ≡ length reads.old.items) }
     ensures clear_marks { OnOk result ((q : ℕ) → plain.flag marks.new.items q ≡ false) }
-    ensures clear_reads { (spec : PlainSpec) (rules : List NumberedRule) → AreNumbered spec rules → ArePartsOf parts.now rules (length reads.old.items) → ((q : ℕ) → plain.flag reads.old.items q ≡ false) → OnOk result ((q : ℕ) → plain.flag reads.new.items q ≡ false) }
+    ensures clear_reads { (spec : PlainSpec) (rules : List NumberedRule) → AreNumbered spec rules
+        → ArePartsOf parts.now rules (length reads.old.items)
+        → ((q : ℕ) → plain.flag reads.old.items q ≡ false)
+        → OnOk result ((q : ℕ) → plain.flag reads.new.items q ≡ false) }
 {
     mark(marks, set);
     let mut next = Vec::new(alloc);
@@ -60,7 +68,10 @@ pub(crate) fn begin(
     active: &[bool],
 ) -> Result<Vec<u16>, AllocError>
     requires { total ≤ 65536 }
-    ensures { (spec : PlainSpec) (condition : ℕ) (begin : Bool) (rules : List NumberedRule) → AreNumbered spec rules → ArePartsOf parts.now rules total → AreActive spec condition begin active.now → IfOk result (λ first. AreFirst spec rules condition begin first.items) }
+    ensures { (spec : PlainSpec) (condition : ℕ) (begin : Bool) (rules : List NumberedRule)
+        → AreNumbered spec rules → ArePartsOf parts.now rules total
+        → AreActive spec condition begin active.now
+        → IfOk result (λ first. AreFirst spec rules condition begin first.items) }
 {
     let marks = clear_flags(alloc, total)?;
     let mut reads = clear_flags(alloc, total)?;
@@ -81,7 +92,10 @@ fn begin_rule(
 ) -> Result<(), AllocError>
     ensures long { OnOk result (length reads.new.items ≡ length reads.old.items) }
     ensures inactive { is_active ≡ false → OnOk result (reads.new.items ≡ reads.old.items) }
-    ensures active { is_active ≡ true → (r : NumberedRule) → IsPartOf part.now r → part.now.base + part.now.count ≤ length reads.old.items → IsClear reads.old.items part.now.base (part.now.base + part.now.count) → OnOk result (AreReadsOf r marks.now true reads.old.items reads.new.items) }
+    ensures active { is_active ≡ true → (r : NumberedRule) → IsPartOf part.now r
+        → part.now.base + part.now.count ≤ length reads.old.items
+        → IsClear reads.old.items part.now.base (part.now.base + part.now.count)
+        → OnOk result (AreReadsOf r marks.now true reads.old.items reads.new.items) }
 {
     if is_active {
         part.follow(alloc, marks, true, reads)?;

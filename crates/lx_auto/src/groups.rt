@@ -33,7 +33,8 @@ fn one_group(alloc: Global) -> Result<Groups, AllocError> {
 
 // Returns the representative of a byte's group.
 fn representative(groups: &Groups, byte: u8) -> u8
-    ensures { result ≡ representative_of groups.now.classes.items groups.now.representatives.items byte }
+    ensures { result
+        ≡ representative_of groups.now.classes.items groups.now.representatives.items byte }
 {
     let class = groups.classes[byte as usize];
     groups.representatives[class as usize]
@@ -41,7 +42,8 @@ fn representative(groups: &Groups, byte: u8) -> u8
 
 // Returns true if the leaf distinguishes a byte from its representative.
 fn splits(leaf: &Leaf, groups: &Groups) -> bool
-    ensures { result ≡ false → RespectsGroups (leaf_view leaf.now) groups.now.classes.items groups.now.representatives.items }
+    ensures { result ≡ false → RespectsGroups (leaf_view leaf.now) groups.now.classes.items
+        groups.now.representatives.items }
 {
     for i in 0..256usize {
         let byte = i as u8;
@@ -54,7 +56,8 @@ fn splits(leaf: &Leaf, groups: &Groups) -> bool
 
 // Returns true if the two bytes are in one group and the leaf doesn't distinguish them.
 fn are_together(leaf: &Leaf, groups: &Groups, first: u8, second: u8) -> bool
-    ensures { result ≡ true → AreTogether (leaf_view leaf.now) groups.now.classes.items first second }
+    ensures { result ≡ true
+        → AreTogether (leaf_view leaf.now) groups.now.classes.items first second }
 {
     groups.classes[first as usize] == groups.classes[second as usize]
         && has(leaf, first) == has(leaf, second)
@@ -63,7 +66,9 @@ fn are_together(leaf: &Leaf, groups: &Groups, first: u8, second: u8) -> bool
 // Finds the first of the new groups to which the byte can go.
 fn find_group(leaf: &Leaf, groups: &Groups, representatives: &[u8], byte: u8) -> Option<usize>
     ensures within { MatchOption result (Unit {0}) (λ class. class < length representatives.now) }
-    ensures together { MatchOption result (Unit {0}) (λ class. AreTogether (leaf_view leaf.now) groups.now.classes.items (slice_index representatives.now class) byte) }
+    ensures together { MatchOption result (Unit {0}) (λ class.
+        AreTogether (leaf_view leaf.now) groups.now.classes.items
+        (slice_index representatives.now class) byte) }
 {
     for class in 0..representatives.len() {
         if are_together(leaf, groups, representatives[class], byte) {
@@ -81,11 +86,19 @@ fn group_for(
     representatives: &mut Vec<u8>,
 ) -> Result<usize, AllocError>
     ensures within { IfOk result (λ class. class < length representatives.new.items) }
-    ensures longer { OnOk result (length representatives.old.items ≤ length representatives.new.items) }
-    ensures few { OnOk result (length representatives.new.items ≤ length representatives.old.items + 1) }
-    ensures small { ((k : ℕ) → k < length representatives.old.items → slice_index representatives.old.items k < 256) → OnOk result ((k : ℕ) → k < length representatives.new.items → slice_index representatives.new.items k < 256) }
-    ensures kept { OnOk result ((k : ℕ) → k < length representatives.old.items → slice_index representatives.new.items k ≡ slice_index representatives.old.items k) }
-    ensures together { IfOk result (λ class. AreTogether (leaf_view leaf.now) groups.now.classes.items (slice_index representatives.new.items class) byte) }
+    ensures longer { OnOk result
+        (length representatives.old.items ≤ length representatives.new.items) }
+    ensures few { OnOk result
+        (length representatives.new.items ≤ length representatives.old.items + 1) }
+    ensures small { ((k : ℕ) → k < length representatives.old.items
+        → slice_index representatives.old.items k < 256)
+        → OnOk result ((k : ℕ) → k < length representatives.new.items
+        → slice_index representatives.new.items k < 256) }
+    ensures kept { OnOk result ((k : ℕ) → k < length representatives.old.items
+        → slice_index representatives.new.items k ≡ slice_index representatives.old.items k) }
+    ensures together { IfOk result (λ class.
+        AreTogether (leaf_view leaf.now) groups.now.classes.items
+        (slice_index representatives.new.items class) byte) }
 {
     match find_group(leaf, groups, representatives, byte) {
         Some(class) => Ok(class),
@@ -99,7 +112,9 @@ fn group_for(
 
 // Splits each group by the leaf's bytes.
 fn split(alloc: Global, leaf: &Leaf, groups: &Groups) -> Result<Groups, AllocError>
-    ensures { IfOk result (λ new. IsSplitBelow (leaf_view leaf.now) groups.now.classes.items new.classes.items new.representatives.items 256) }
+    ensures { IfOk result (λ new.
+        IsSplitBelow (leaf_view leaf.now) groups.now.classes.items new.classes.items
+        new.representatives.items 256) }
 {
     let mut classes = Vec::new(alloc);
     let mut representatives = Vec::new(alloc);
@@ -115,8 +130,11 @@ fn split(alloc: Global, leaf: &Leaf, groups: &Groups) -> Result<Groups, AllocErr
 
 // Splits the groups if the leaf distinguishes bytes of one group.
 fn refine(alloc: Global, leaf: &Leaf, groups: Groups) -> Result<Groups, AllocError>
-    ensures own { IfOk result (λ new. RespectsGroups (leaf_view leaf.now) new.classes.items new.representatives.items) }
-    ensures others { (other : PlainLeaf) → RespectsGroups other groups.classes.items groups.representatives.items → IfOk result (λ new. RespectsGroups other new.classes.items new.representatives.items) }
+    ensures own { IfOk result
+        (λ new. RespectsGroups (leaf_view leaf.now) new.classes.items new.representatives.items) }
+    ensures others { (other : PlainLeaf)
+        → RespectsGroups other groups.classes.items groups.representatives.items
+        → IfOk result (λ new. RespectsGroups other new.classes.items new.representatives.items) }
 {
     if splits(leaf, &groups) {
         let finer = split(alloc, leaf, &groups)?;
@@ -130,7 +148,9 @@ const MOST_KEPT: usize = 64;
 
 // Returns true if one of the leaves has the same bytes as this one.
 fn is_among(kept: &[Leaf], leaf: &Leaf) -> bool
-    ensures { (classes representatives : List ℕ) → All (λ k. RespectsGroups (leaf_view k) classes representatives) kept.now → result ≡ true → RespectsGroups (leaf_view leaf.now) classes representatives }
+    ensures { (classes representatives : List ℕ)
+        → All (λ k. RespectsGroups (leaf_view k) classes representatives) kept.now → result ≡ true
+        → RespectsGroups (leaf_view leaf.now) classes representatives }
 {
     for other in kept {
         if are_same(other, leaf) {
@@ -142,7 +162,10 @@ fn is_among(kept: &[Leaf], leaf: &Leaf) -> bool
 
 // Keeps a leaf, unless there are enough.
 fn keep<'s>(kept: &mut Vec<Leaf<'s>>, leaf: Leaf<'s>) -> Result<(), AllocError>
-    ensures { (classes representatives : List ℕ) → All (λ k. RespectsGroups (leaf_view k) classes representatives) kept.old.items → RespectsGroups (leaf_view leaf.entry) classes representatives → OnOk result (All (λ k. RespectsGroups (leaf_view k) classes representatives) kept.new.items) }
+    ensures { (classes representatives : List ℕ)
+        → All (λ k. RespectsGroups (leaf_view k) classes representatives) kept.old.items
+        → RespectsGroups (leaf_view leaf.entry) classes representatives → OnOk result
+        (All (λ k. RespectsGroups (leaf_view k) classes representatives) kept.new.items) }
 {
     if kept.len() == MOST_KEPT {
         return Ok(());
@@ -153,7 +176,9 @@ fn keep<'s>(kept: &mut Vec<Leaf<'s>>, leaf: Leaf<'s>) -> Result<(), AllocError>
 
 /// Groups the bytes that no leaf distinguishes.
 pub(crate) fn groups_of<'s>(alloc: Global, leaves: &[Leaf<'s>]) -> Result<Groups, AllocError>
-    ensures { IfOk result (λ groups. AreGroupsOf (leaves_view leaves.now) groups.classes.items groups.representatives.items) }
+    ensures { IfOk result (λ groups.
+        AreGroupsOf (leaves_view leaves.now) groups.classes.items
+        groups.representatives.items) }
 {
     let mut groups = one_group(alloc)?;
     let mut kept = Vec::new(alloc);

@@ -48,7 +48,8 @@ pub(crate) fn are_same(a: &Leaf, b: &Leaf) -> bool
 
 // Adds the leaf of a node, if it is one.
 fn push_leaf<'s>(node: &Node<'s>, leaves: &mut Vec<Leaf<'s>>) -> Result<(), AllocError>
-    ensures { OnOk result (leaves_view leaves.new.items ≡ leaves_view leaves.old.items ++ leaf_in (node_view node.now)) }
+    ensures { OnOk result (leaves_view leaves.new.items
+        ≡ leaves_view leaves.old.items ++ leaf_in (node_view node.now)) }
 {
     match *node {
         Node::Leaf(set) => leaves.push(Leaf::Set(set))?,
@@ -59,7 +60,8 @@ fn push_leaf<'s>(node: &Node<'s>, leaves: &mut Vec<Leaf<'s>>) -> Result<(), Allo
 
 // Adds the leaves of nodes, in order.
 fn push_leaves<'s>(nodes: &[Node<'s>], leaves: &mut Vec<Leaf<'s>>) -> Result<(), AllocError>
-    ensures { OnOk result (leaves_view leaves.new.items ≡ leaves_view leaves.old.items ++ leaves_in (nodes_view nodes.now)) }
+    ensures { OnOk result (leaves_view leaves.new.items
+        ≡ leaves_view leaves.old.items ++ leaves_in (nodes_view nodes.now)) }
 {
     for node in nodes {
         push_leaf(node, leaves)?;
@@ -69,7 +71,8 @@ fn push_leaves<'s>(nodes: &[Node<'s>], leaves: &mut Vec<Leaf<'s>>) -> Result<(),
 
 // Adds the leaves of a rule, with the newline of a line end after all others.
 fn push_part<'s>(part: &RulePart<'s>, leaves: &mut Vec<Leaf<'s>>) -> Result<(), AllocError>
-    ensures { OnOk result (leaves_view leaves.new.items ≡ leaves_view leaves.old.items ++ leaves_of_part part.now) }
+    ensures { OnOk result
+        (leaves_view leaves.new.items ≡ leaves_view leaves.old.items ++ leaves_of_part part.now) }
 {
     push_leaves(&part.nodes, leaves)?;
     if part.line_end {
@@ -94,7 +97,9 @@ pub(crate) fn leaves_of<'s>(
     alloc: Global,
     parts: &[RulePart<'s>],
 ) -> Result<Vec<Leaf<'s>>, AllocError>
-    ensures { (tree_of : Regex → Unfolded) (plain : List PlainRule) (total : ℕ) → ArePartsOf parts.now (numbered tree_of 0 plain) total → IfOk result (λ leaves. AreLeavesOf (numbered tree_of 0 plain) (leaves_view leaves.items)) }
+    ensures { (tree_of : Regex → Unfolded) (plain : List PlainRule) (total : ℕ)
+        → ArePartsOf parts.now (numbered tree_of 0 plain) total → IfOk result
+        (λ leaves. AreLeavesOf (numbered tree_of 0 plain) (leaves_view leaves.items)) }
 {
     let leaves = leaves_of_all(alloc, parts)?;
     Ok(leaves)

@@ -22,7 +22,8 @@ pub(crate) fn flag(flags: &[bool], i: usize) -> bool
 /// Returns true if one of `count` flags from `from` on is set. Reads all of them, since a loop that can't stop early reads many at once.
 pub(crate) fn has_flag(flags: &[bool], from: usize, count: usize) -> bool
     requires { from + count < 2 ^ 63 }
-    ensures { result ≡ false → (q : ℕ) → from ≤ q → q < from + count → plain.flag flags.now q ≡ false }
+    ensures { result ≡ false → (q : ℕ) → from ≤ q → q < from + count
+        → plain.flag flags.now q ≡ false }
 {
     let end = (from + count).min(flags.len());
     let mut found = false;
@@ -108,7 +109,8 @@ pub(crate) fn ends_of(
     first: usize,
 ) -> Result<Vec<bool>, AllocError>
     requires { first < 2 ^ 32 }
-    ensures { IfOk result (λ ends. ends.items ≡ ends_from nulls.now marks.now first (nodes_view nodes.now) []) }
+    ensures { IfOk result
+        (λ ends. ends.items ≡ ends_from nulls.now marks.now first (nodes_view nodes.now) []) }
 {
     let mut ends = Vec::with_capacity(alloc, nodes.len())?;
     let mut position = first;
@@ -139,7 +141,9 @@ fn push_entered(
     entered: bool,
     stack: &mut Vec<bool>,
 ) -> Result<(), AllocError>
-    ensures { OnOk result (reverse stack.new.items ≡ entered_children nulls.now ends.now (node_view node.now) before entered (reverse stack.old.items)) }
+    ensures { OnOk result (reverse stack.new.items
+        ≡ entered_children nulls.now ends.now (node_view node.now) before entered
+        (reverse stack.old.items)) }
 {
     match *node {
         Node::Leaf(_) => {}
@@ -190,7 +194,9 @@ pub(crate) fn mark_reads(
     reads: &mut Vec<bool>,
 ) -> Result<(), AllocError>
     ensures long { OnOk result (length reads.new.items ≡ length reads.old.items) }
-    ensures set { OnOk result (reads.new.items ≡ reads_from nulls.now ends.now (reverse (nodes_view nodes.now)) (entered ∷ []) end reads.old.items) }
+    ensures set { OnOk result (reads.new.items
+        ≡ reads_from nulls.now ends.now (reverse (nodes_view nodes.now)) (entered ∷ []) end
+        reads.old.items) }
 {
     let mut stack = Vec::with_capacity(alloc, STACK)?;
     stack.push(entered)?;

@@ -27,7 +27,8 @@ pub(crate) const EMPTY: Part = Part {
 
 // Makes a node above two expressions. Memory never holds as many nodes as would saturate the sum.
 fn above_both(left: Part, right: Part, nullable: bool) -> Part
-    ensures { result ≡ record { size = min 18446744073709551615 (left.size + right.size + 1); nullable = nullable; repeated = false } }
+    ensures { result ≡ record
+        { size = min 18446744073709551615 (left.size + right.size + 1); nullable = nullable; repeated = false } }
 {
     Part {
         size: left.size.saturating_add(right.size).saturating_add(1),
@@ -38,7 +39,8 @@ fn above_both(left: Part, right: Part, nullable: bool) -> Part
 
 // Makes a node above one expression.
 fn above(part: Part, nullable: bool, repeated: bool) -> Part
-    ensures { result ≡ record { size = min 18446744073709551615 (part.size + 1); nullable = nullable; repeated = repeated } }
+    ensures { result ≡ record
+        { size = min 18446744073709551615 (part.size + 1); nullable = nullable; repeated = repeated } }
 {
     Part {
         size: part.size.saturating_add(1),
@@ -61,7 +63,9 @@ fn either(left: bool, right: bool) -> bool
 
 /// Joins the left expression and then the right one.
 pub(crate) fn join(nodes: &mut Vec<Node<'_>>, left: Part, right: Part) -> Result<Part, AllocError>
-    ensures { IfOk result (λ part. Joins cat_of (nodes_view nodes.old.items) (nodes_view nodes.new.items) left right part) }
+    ensures { IfOk result (λ part.
+        Joins cat_of (nodes_view nodes.old.items) (nodes_view nodes.new.items) left right
+        part) }
 {
     if left.size == 0 {
         return Ok(right);
@@ -75,7 +79,9 @@ pub(crate) fn join(nodes: &mut Vec<Node<'_>>, left: Part, right: Part) -> Result
 
 /// Joins the left expression or the right one.
 pub(crate) fn choose(nodes: &mut Vec<Node<'_>>, left: Part, right: Part) -> Result<Part, AllocError>
-    ensures { IfOk result (λ part. Joins alt_of (nodes_view nodes.old.items) (nodes_view nodes.new.items) left right part) }
+    ensures { IfOk result (λ part.
+        Joins alt_of (nodes_view nodes.old.items) (nodes_view nodes.new.items) left right
+        part) }
 {
     if left.size == 0 {
         return optional(nodes, right);
@@ -89,7 +95,8 @@ pub(crate) fn choose(nodes: &mut Vec<Node<'_>>, left: Part, right: Part) -> Resu
 
 /// Makes the expression optional.
 pub(crate) fn optional(nodes: &mut Vec<Node<'_>>, part: Part) -> Result<Part, AllocError>
-    ensures { IfOk result (λ new. Changes opt_of (nodes_view nodes.old.items) (nodes_view nodes.new.items) part new) }
+    ensures { IfOk result
+        (λ new. Changes opt_of (nodes_view nodes.old.items) (nodes_view nodes.new.items) part new) }
 {
     if part.nullable {
         return Ok(part);
@@ -100,7 +107,8 @@ pub(crate) fn optional(nodes: &mut Vec<Node<'_>>, part: Part) -> Result<Part, Al
 
 /// Repeats the expression one or more times.
 pub(crate) fn one_or_more(nodes: &mut Vec<Node<'_>>, part: Part) -> Result<Part, AllocError>
-    ensures { IfOk result (λ new. Changes plus_of (nodes_view nodes.old.items) (nodes_view nodes.new.items) part new) }
+    ensures { IfOk result (λ new.
+        Changes plus_of (nodes_view nodes.old.items) (nodes_view nodes.new.items) part new) }
 {
     if part.size == 0 {
         return Ok(part);

@@ -11,7 +11,8 @@ use std::alloc::AllocError;
 
 // Appends `times` more copies of the last nodes.
 fn append_copies(nodes: &mut Vec<Node<'_>>, size: usize, times: u8) -> Result<(), AllocError>
-    ensures { OnOk result (nodes.new.items ≡ nodes.old.items ++ copies times (drop (length nodes.old.items - size) nodes.old.items)) }
+    ensures { OnOk result (nodes.new.items ≡ nodes.old.items
+        ++ copies times (drop (length nodes.old.items - size) nodes.old.items)) }
 {
     let end = nodes.as_slice().len();
     let start = end.saturating_sub(size);
@@ -28,7 +29,9 @@ fn close_copy(
     behind: Part,
     is_required: bool,
 ) -> Result<Part, AllocError>
-    ensures { IfOk result (λ part. Joins (joined_as is_required) (nodes_view nodes.old.items) (nodes_view nodes.new.items) body behind part) }
+    ensures { IfOk result (λ part.
+        Joins (joined_as is_required) (nodes_view nodes.old.items) (nodes_view nodes.new.items)
+        body behind part) }
 {
     let both = join(nodes, body, behind)?;
     if is_required {
@@ -54,7 +57,9 @@ fn repeat_counted(
     high: u8,
 ) -> Result<Part, AllocError>
     requires { 0 < high }
-    ensures { IfOk result (λ part. Changes (λ r. simplified_counted r low high) (nodes_view nodes.old.items) (nodes_view nodes.new.items) body part) }
+    ensures { IfOk result (λ part.
+        Changes (λ r. simplified_counted r low high) (nodes_view nodes.old.items)
+        (nodes_view nodes.new.items) body part) }
 {
     append_copies(nodes, body.size, high - 1)?;
     let mut behind = EMPTY;
@@ -67,7 +72,9 @@ fn repeat_counted(
 // Writes out `low` copies of the body, at least one, and repeats the last one.
 fn repeat_unbounded(nodes: &mut Vec<Node<'_>>, body: Part, low: u8) -> Result<Part, AllocError>
     requires { 0 < low }
-    ensures { IfOk result (λ part. Changes (λ r. simplified_unbounded r (low - 1)) (nodes_view nodes.old.items) (nodes_view nodes.new.items) body part) }
+    ensures { IfOk result (λ part.
+        Changes (λ r. simplified_unbounded r (low - 1)) (nodes_view nodes.old.items)
+        (nodes_view nodes.new.items) body part) }
 {
     append_copies(nodes, body.size, low - 1)?;
     let mut behind = one_or_more(nodes, body)?;
@@ -95,7 +102,9 @@ pub(crate) fn repeat(
     high: Option<u8>,
 ) -> Result<Part, AllocError>
     requires { is_no_copy high ≡ false }
-    ensures { IfOk result (λ part. Changes (λ r. simplified_repeated r low high) (nodes_view nodes.old.items) (nodes_view nodes.new.items) body part) }
+    ensures { IfOk result (λ part.
+        Changes (λ r. simplified_repeated r low high) (nodes_view nodes.old.items)
+        (nodes_view nodes.new.items) body part) }
 {
     match high {
         Some(high) => repeat_counted(nodes, body, low, high),

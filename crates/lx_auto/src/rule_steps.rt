@@ -24,7 +24,8 @@ fn outline_ends(
     nulls: &[bool],
     at_blocks: &[bool],
 ) -> Result<Vec<bool>, AllocError>
-    ensures { IfOk result (λ ends. ends.items ≡ plain.ends_from nulls.now at_blocks.now 0 (nodes_view outline.now) []) }
+    ensures { IfOk result (λ ends.
+        ends.items ≡ plain.ends_from nulls.now at_blocks.now 0 (nodes_view outline.now) []) }
 {
     if has_flag(at_blocks, 0, at_blocks.len()) {
         return ends_of(alloc, outline, nulls, at_blocks, 0);
@@ -44,7 +45,9 @@ fn mark_entered(
 ) -> Result<(), AllocError>
     requires clear { (q : ℕ) → plain.flag enters.old.items q ≡ false }
     ensures long { OnOk result (length enters.new.items ≡ length enters.old.items) }
-    ensures set { OnOk result (enters.new.items ≡ plain.reads_from nulls.now ends.now (reverse (nodes_view outline.now)) (entered ∷ []) end enters.old.items) }
+    ensures set { OnOk result (enters.new.items
+        ≡ plain.reads_from nulls.now ends.now (reverse (nodes_view outline.now)) (entered ∷ [])
+        end enters.old.items) }
 {
     if entered || has_flag(ends, 0, ends.len()) {
         return mark_reads(alloc, outline, nulls, ends, entered, end, enters);
@@ -55,7 +58,8 @@ fn mark_entered(
 impl RulePart<'_> {
     /// Returns true if a position of the rule is marked.
     pub(crate) fn is_touched(&self, marks: &[bool]) -> bool
-        ensures { result ≡ false → (q : ℕ) → self.now.base ≤ q → q < self.now.base + self.now.count + 1 → plain.flag marks.now q ≡ false }
+        ensures { result ≡ false → (q : ℕ) → self.now.base ≤ q
+            → q < self.now.base + self.now.count + 1 → plain.flag marks.now q ≡ false }
     {
         has_flag(marks, self.base, self.count + 1)
     }
@@ -70,8 +74,12 @@ impl RulePart<'_> {
         reads: &mut Vec<bool>,
     ) -> Result<bool, AllocError>
         ensures long { OnOk result (length reads.new.items ≡ length reads.old.items) }
-        ensures ended { (r : NumberedRule) → IsPartOf self.now r → IfOk result (λ ended. (ended ≡ true) ↔ CanEnd (λ p. plain.flag marks.now p ≡ true) r.tree r.base) }
-        ensures reads { (r : NumberedRule) → IsPartOf self.now r → self.now.base + self.now.count ≤ length reads.old.items → IsClear reads.old.items self.now.base (self.now.base + self.now.count) → OnOk result (AreReadsOf r marks.now entered reads.old.items reads.new.items) }
+        ensures ended { (r : NumberedRule) → IsPartOf self.now r → IfOk result (λ ended.
+            (ended ≡ true) ↔ CanEnd (λ p. plain.flag marks.now p ≡ true) r.tree r.base) }
+        ensures reads { (r : NumberedRule) → IsPartOf self.now r
+            → self.now.base + self.now.count ≤ length reads.old.items
+            → IsClear reads.old.items self.now.base (self.now.base + self.now.count)
+            → OnOk result (AreReadsOf r marks.now entered reads.old.items reads.new.items) }
     {
         // Most sets touch few blocks. Only these are visited node by node, and the outline determines which other blocks are entered.
         let blocks = self.blocks.as_slice();
@@ -104,8 +112,13 @@ impl RulePart<'_> {
         reads: &mut Vec<bool>,
     ) -> Result<bool, AllocError>
         ensures long { OnOk result (length reads.new.items ≡ length reads.old.items) }
-        ensures matched { (r : NumberedRule) → IsPartOf self.now r → IfOk result (λ matched. (matched ≡ true) ↔ EndsMarked marks.now r) }
-        ensures reads { (r : NumberedRule) → IsPartOf self.now r → self.now.base + (self.now.count + newline_count self.now.line_end) ≤ length reads.old.items → IsClear reads.old.items self.now.base (self.now.base + self.now.count) → OnOk result (ReadsRule (FollowsMarked marks.now) r reads.old.items reads.new.items) }
+        ensures matched { (r : NumberedRule) → IsPartOf self.now r
+            → IfOk result (λ matched. (matched ≡ true) ↔ EndsMarked marks.now r) }
+        ensures reads { (r : NumberedRule) → IsPartOf self.now r
+            → self.now.base + (self.now.count + newline_count self.now.line_end)
+            ≤ length reads.old.items
+            → IsClear reads.old.items self.now.base (self.now.base + self.now.count)
+            → OnOk result (ReadsRule (FollowsMarked marks.now) r reads.old.items reads.new.items) }
     {
         let ended = self.follow(alloc, marks, false, reads)?;
         if !self.line_end {

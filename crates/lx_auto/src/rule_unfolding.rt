@@ -41,8 +41,12 @@ fn unfold_rule<'s>(
     rule: &'s Rule,
 ) -> Result<Vec<Node<'s>>, AllocError>
     requires fragments { AreFragments names.now.definitions.now fragments.now }
-    requires nested { IsTrue (are_nested (map definition_view names.now.definitions.now) (regex_of rule.now.pattern.expr ∷ [])) }
-    ensures { IfOk result (λ nodes. nodes_view nodes.items ≡ nodes_of (simplified_pattern (map definition_view names.now.definitions.now) (regex_of rule.now.pattern.expr))) }
+    requires nested { IsTrue (are_nested (map definition_view names.now.definitions.now)
+        (regex_of rule.now.pattern.expr ∷ [])) }
+    ensures { IfOk result (λ nodes.
+        nodes_view nodes.items
+        ≡ nodes_of (simplified_pattern (map definition_view names.now.definitions.now)
+        (regex_of rule.now.pattern.expr))) }
 {
     let mut nodes = Vec::new(alloc);
     unfold(names, fragments, 32, &rule.pattern.expr, &mut nodes)?;
@@ -92,10 +96,17 @@ fn unfold_each<'s>(
     rules: &'s [Rule],
 ) -> Result<UnfoldedRules<'s>, AllocError>
     requires fragments { AreFragments names.now.definitions.now fragments.now }
-    requires nested { IsTrue (are_nested (map definition_view names.now.definitions.now) (expressions_of (map rule_view rules.now))) }
-    requires few { count_of_rules (map definition_view names.now.definitions.now) (map rule_view rules.now) ≤ max_positions }
-    ensures parts { IfOk result (λ u. ArePartsOf u.parts.items (numbered (simplified_pattern (map definition_view names.now.definitions.now)) 0 (map rule_view rules.now)) u.total) }
-    ensures total { IfOk result (λ u. u.total ≡ count_of_rules (map definition_view names.now.definitions.now) (map rule_view rules.now)) }
+    requires nested { IsTrue (are_nested (map definition_view names.now.definitions.now)
+        (expressions_of (map rule_view rules.now))) }
+    requires few { count_of_rules (map definition_view names.now.definitions.now)
+        (map rule_view rules.now) ≤ max_positions }
+    ensures parts { IfOk result (λ u.
+        ArePartsOf u.parts.items (numbered
+        (simplified_pattern (map definition_view names.now.definitions.now)) 0
+        (map rule_view rules.now)) u.total) }
+    ensures total { IfOk result (λ u.
+        u.total ≡ count_of_rules (map definition_view names.now.definitions.now)
+        (map rule_view rules.now)) }
 {
     let mut parts = Vec::new(alloc);
     let mut total = 0;
@@ -118,10 +129,14 @@ pub(crate) fn unfold_rules<'s>(
     alloc: Global,
     spec: &'s Spec,
 ) -> Result<UnfoldedRules<'s>, BuildFault>
-    ensures too_many { IfErr result (λ e. e ≡ BuildFault.TooManyPositions → HasTooManyPositions (spec_view spec.now)) }
-    ensures memory { IfErr result (λ e. (e ≡ BuildFault.TooManyPositions) ⊎ (e ≡ BuildFault.Memory)) }
+    ensures too_many { IfErr result
+        (λ e. e ≡ BuildFault.TooManyPositions → HasTooManyPositions (spec_view spec.now)) }
+    ensures memory { IfErr result
+        (λ e. (e ≡ BuildFault.TooManyPositions) ⊎ (e ≡ BuildFault.Memory)) }
     ensures few { IfOk result (λ _. count_of_spec (spec_view spec.now) ≤ max_positions) }
-    ensures parts { IfOk result (λ u. ArePartsOf u.parts.items (numbered (simplified_pattern (spec_view spec.now).definitions) 0 (spec_view spec.now).rules) u.total) }
+    ensures parts { IfOk result (λ u.
+        ArePartsOf u.parts.items (numbered (simplified_pattern (spec_view spec.now).definitions)
+        0 (spec_view spec.now).rules) u.total) }
     ensures total { IfOk result (λ u. u.total ≤ max_positions) }
 {
     let names = index_names(alloc, &spec.definitions)?;

@@ -62,10 +62,16 @@ fn add_new(
     ensures numbering { OnOk result (IsNumbering table.new.sets.items table.new.numbers) }
     ensures at { IfOk result (λ n. n < length table.new.sets.items) }
     ensures found { IfOk result (λ n. set_of table.new.sets.items n ≡ set.items) }
-    ensures extended_by { OnOk result (IsExtendedBy table.old.sets.items table.new.sets.items set.items) }
+    ensures extended_by { OnOk result
+        (IsExtendedBy table.old.sets.items table.new.sets.items set.items) }
     ensures room { OnOk result (length table.new.sets.items ≤ limit) }
-    ensures fresh { OnOk result (length table.new.sets.items ≡ length table.old.sets.items ⊎ ((i : ℕ) → i < length table.old.sets.items → set_of table.old.sets.items i ≢ set.items)) }
-    ensures many { IfErr result (λ e. e ≡ BuildFault.TooManySets → (length table.old.sets.items ≡ limit) × ((i : ℕ) → i < length table.old.sets.items → set_of table.old.sets.items i ≢ set.items)) }
+    ensures fresh { OnOk result (length table.new.sets.items ≡ length table.old.sets.items
+        ⊎ ((i : ℕ) → i < length table.old.sets.items
+        → set_of table.old.sets.items i ≢ set.items)) }
+    ensures many { IfErr result (λ e.
+        e ≡ BuildFault.TooManySets
+        → (length table.old.sets.items ≡ limit) × ((i : ℕ) → i < length table.old.sets.items
+        → set_of table.old.sets.items i ≢ set.items)) }
     ensures few { IfErr result (λ e. e ≢ BuildFault.TooManyPositions) }
 {
     let number = table.sets.len();
@@ -88,10 +94,16 @@ pub(crate) fn number_of(
     ensures numbering { OnOk result (IsNumbering table.new.sets.items table.new.numbers) }
     ensures at { IfOk result (λ n. n < length table.new.sets.items) }
     ensures found { IfOk result (λ n. set_of table.new.sets.items n ≡ set.items) }
-    ensures extended_by { OnOk result (IsExtendedBy table.old.sets.items table.new.sets.items set.items) }
+    ensures extended_by { OnOk result
+        (IsExtendedBy table.old.sets.items table.new.sets.items set.items) }
     ensures room { OnOk result (length table.new.sets.items ≤ limit) }
-    ensures fresh { OnOk result (length table.new.sets.items ≡ length table.old.sets.items ⊎ ((i : ℕ) → i < length table.old.sets.items → set_of table.old.sets.items i ≢ set.items)) }
-    ensures many { IfErr result (λ e. e ≡ BuildFault.TooManySets → (length table.old.sets.items ≡ limit) × ((i : ℕ) → i < length table.old.sets.items → set_of table.old.sets.items i ≢ set.items)) }
+    ensures fresh { OnOk result (length table.new.sets.items ≡ length table.old.sets.items
+        ⊎ ((i : ℕ) → i < length table.old.sets.items
+        → set_of table.old.sets.items i ≢ set.items)) }
+    ensures many { IfErr result (λ e.
+        e ≡ BuildFault.TooManySets
+        → (length table.old.sets.items ≡ limit) × ((i : ℕ) → i < length table.old.sets.items
+        → set_of table.old.sets.items i ≢ set.items)) }
     ensures few { IfErr result (λ e. e ≢ BuildFault.TooManyPositions) }
 {
     match known_number(table, &set) {

@@ -82,7 +82,8 @@ fn untouched_count(parts: &[RulePart], rules_at: &[u16], from: usize, bare: Bare
 fn is_untouched(part: &RulePart, marks: &[bool], bare: Bare) -> bool
     requires bare { (q : ℕ) → bare.from ≤ q → q < bare.until → plain.flag marks.now q ≡ false }
     requires from { bare.from ≤ part.now.base }
-    ensures { result ≡ true → (q : ℕ) → part.now.base ≤ q → q < part.now.base + part.now.count + 1 → plain.flag marks.now q ≡ false }
+    ensures { result ≡ true → (q : ℕ) → part.now.base ≤ q → q < part.now.base + part.now.count + 1
+        → plain.flag marks.now q ≡ false }
 {
     if part.base + part.count < bare.until {
         return true;
@@ -101,8 +102,13 @@ fn step_rule(
     requires bare { (q : ℕ) → bare.from ≤ q → q < bare.until → plain.flag marks.now q ≡ false }
     requires from { bare.from ≤ part.now.base }
     ensures long { OnOk result (length reads.new.items ≡ length reads.old.items) }
-    ensures matched { (r : NumberedRule) → IsPartOf part.now r → IfOk result (λ matched. (matched ≡ true) ↔ EndsMarked marks.now r) }
-    ensures reads { (r : NumberedRule) → IsPartOf part.now r → part.now.base + (part.now.count + newline_count part.now.line_end) ≤ length reads.old.items → IsClear reads.old.items part.now.base (part.now.base + part.now.count) → OnOk result (ReadsOrStays (FollowsMarked marks.now) r reads.old.items reads.new.items) }
+    ensures matched { (r : NumberedRule) → IsPartOf part.now r
+        → IfOk result (λ matched. (matched ≡ true) ↔ EndsMarked marks.now r) }
+    ensures reads { (r : NumberedRule) → IsPartOf part.now r
+        → part.now.base + (part.now.count + newline_count part.now.line_end)
+        ≤ length reads.old.items
+        → IsClear reads.old.items part.now.base (part.now.base + part.now.count)
+        → OnOk result (ReadsOrStays (FollowsMarked marks.now) r reads.old.items reads.new.items) }
 {
     if is_untouched(part, marks, bare) {
         return Ok(false);
@@ -125,7 +131,10 @@ fn first_matched(found: Option<usize>, matched: bool, i: usize) -> Option<usize>
 // Appends the positions of a rule that can be read next, including its newline.
 fn push_read(part: &RulePart, reads: &[bool], next: &mut Vec<u16>) -> Result<(), AllocError>
     requires { length reads.now ≤ 65536 }
-    ensures { part.now.base ≤ length reads.now → OnOk result (next.new.items ≡ next.old.items ++ places_from part.now.base (drop part.now.base (take (min (part.now.base + part.now.count + 1) (length reads.now)) reads.now))) }
+    ensures { part.now.base ≤ length reads.now → OnOk result (next.new.items
+        ≡ next.old.items ++ places_from part.now.base (drop part.now.base (take
+        (min (part.now.base + part.now.count + 1) (length reads.now))
+        reads.now))) }
 {
     let end = (part.base + part.count + 1).min(reads.len());
     let own = &reads[..end];
@@ -146,9 +155,17 @@ pub(crate) fn step_rules(
 ) -> Result<Option<usize>, AllocError>
     requires few { length reads.old.items ≤ 65536 }
     requires members { (q : ℕ) → plain.flag marks.now q ≡ true → Contains set.now q }
-    ensures reads { (spec : PlainSpec) (rules : List NumberedRule) → AreNumbered spec rules → ArePartsOf parts.now rules (length reads.old.items) → ((q : ℕ) → plain.flag reads.old.items q ≡ false) → OnOk result (AreReadBelow (FollowsMarked marks.now) rules (length rules) reads.new.items) }
-    ensures next { (spec : PlainSpec) (rules : List NumberedRule) → AreNumbered spec rules → ArePartsOf parts.now rules (length reads.old.items) → ((q : ℕ) → plain.flag reads.old.items q ≡ false) → next.old.items ≡ [] → OnOk result (next.new.items ≡ places_from 0 reads.new.items) }
-    ensures matched { (spec : PlainSpec) (rules : List NumberedRule) → AreNumbered spec rules → ArePartsOf parts.now rules (length reads.old.items) → IfOk result (λ found. IsFirstMatchedBelow rules marks.now (length rules) found) }
+    ensures reads { (spec : PlainSpec) (rules : List NumberedRule) → AreNumbered spec rules
+        → ArePartsOf parts.now rules (length reads.old.items)
+        → ((q : ℕ) → plain.flag reads.old.items q ≡ false) → OnOk result
+        (AreReadBelow (FollowsMarked marks.now) rules (length rules) reads.new.items) }
+    ensures next { (spec : PlainSpec) (rules : List NumberedRule) → AreNumbered spec rules
+        → ArePartsOf parts.now rules (length reads.old.items)
+        → ((q : ℕ) → plain.flag reads.old.items q ≡ false) → next.old.items ≡ []
+        → OnOk result (next.new.items ≡ places_from 0 reads.new.items) }
+    ensures matched { (spec : PlainSpec) (rules : List NumberedRule) → AreNumbered spec rules
+        → ArePartsOf parts.now rules (length reads.old.items)
+        → IfOk result (λ found. IsFirstMatchedBelow rules marks.now (length rules) found) }
     ensures long { OnOk result (length reads.new.items ≡ length reads.old.items) }
 {
     let rising = is_rising(set);
@@ -183,7 +200,8 @@ pub(crate) fn clear_flags(alloc: Global, total: usize) -> Result<Vec<bool>, Allo
 pub(crate) fn mark(marks: &mut Vec<bool>, set: &[u16])
     requires clear { (q : ℕ) → plain.flag marks.old.items q ≡ false }
     ensures long { length marks.new.items ≡ length marks.old.items }
-    ensures marks { (q : ℕ) → q < length marks.old.items → plain.flag marks.new.items q ≡ has_member set.now q }
+    ensures marks { (q : ℕ) → q < length marks.old.items
+        → plain.flag marks.new.items q ≡ has_member set.now q }
 {
     for q in set {
         set_flag(marks, *q as usize, true);
@@ -193,7 +211,8 @@ pub(crate) fn mark(marks: &mut Vec<bool>, set: &[u16])
 /// Clears the flags of a set of positions. If no others are set, none is set after it.
 pub(crate) fn unmark(flags: &mut Vec<bool>, set: &[u16])
     ensures long { length flags.new.items ≡ length flags.old.items }
-    ensures clear { ((q : ℕ) → plain.flag flags.old.items q ≡ true → Contains set.now q) → (q : ℕ) → plain.flag flags.new.items q ≡ false }
+    ensures clear { ((q : ℕ) → plain.flag flags.old.items q ≡ true → Contains set.now q) → (q : ℕ)
+        → plain.flag flags.new.items q ≡ false }
 {
     for q in set {
         set_flag(flags, *q as usize, false);
@@ -210,7 +229,8 @@ fn push_places(
     requires few { length flags.now ≤ 65536 }
     requires order { from ≤ end }
     requires within { end ≤ length flags.now }
-    ensures { OnOk result (places.new.items ++ places_from end (drop end flags.now) ≡ places.old.items ++ places_from from (drop from flags.now)) }
+    ensures { OnOk result (places.new.items ++ places_from end (drop end flags.now)
+        ≡ places.old.items ++ places_from from (drop from flags.now)) }
 {
     for i in from..end {
         if flags[i] {
@@ -224,7 +244,8 @@ fn push_places(
 fn push_places_from(flags: &[bool], from: usize, places: &mut Vec<u16>) -> Result<(), AllocError>
     requires few { length flags.now ≤ 65536 }
     requires within { from ≤ length flags.now }
-    ensures { OnOk result (places.new.items ≡ places.old.items ++ places_from from (drop from flags.now)) }
+    ensures { OnOk result
+        (places.new.items ≡ places.old.items ++ places_from from (drop from flags.now)) }
 {
     let mut at = bare_until(flags, from);
     'stretches: while at < flags.len() {

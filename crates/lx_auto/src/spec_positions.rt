@@ -27,10 +27,14 @@ pub(crate) fn positions_of<'s>(
     alloc: Global,
     spec: &'s Spec,
 ) -> Result<PositionTable<'s>, BuildFault>
-    ensures too_many { IfErr result (λ e. e ≡ BuildFault.TooManyPositions → HasTooManyPositions (spec_view spec.now)) }
-    ensures memory { IfErr result (λ e. (e ≡ BuildFault.TooManyPositions) ⊎ (e ≡ BuildFault.Memory)) }
+    ensures too_many { IfErr result
+        (λ e. e ≡ BuildFault.TooManyPositions → HasTooManyPositions (spec_view spec.now)) }
+    ensures memory { IfErr result
+        (λ e. (e ≡ BuildFault.TooManyPositions) ⊎ (e ≡ BuildFault.Memory)) }
     ensures few { IfOk result (λ _. count_of_spec (spec_view spec.now) ≤ max_positions) }
-    ensures stands { IfOk result (λ it. ArePositionsOf (spec_view spec.now) (simplified_pattern (spec_view spec.now).definitions) it) }
+    ensures stands { IfOk result (λ it.
+        ArePositionsOf (spec_view spec.now)
+        (simplified_pattern (spec_view spec.now).definitions) it) }
 {
     let unfolded = unfold_rules(alloc, spec)?;
     let parts = unfolded.parts;
@@ -47,7 +51,8 @@ pub(crate) fn positions_of<'s>(
 /// Returns the number of positions of a specification, before anything is unfolded. The result 16,385 represents all numbers above 16,384. Err: an
 /// allocation failed.
 pub fn count_positions(alloc: Global, spec: &Spec) -> Result<u32, AllocError>
-    ensures { IfOk result (λ count. count ≡ min (max_positions + 1) (count_of_spec (spec_view spec.now))) }
+    ensures { IfOk result
+        (λ count. count ≡ min (max_positions + 1) (count_of_spec (spec_view spec.now))) }
 {
     let names = index_names(alloc, &spec.definitions)?;
     let counts = count_definitions(alloc, &names)?;

@@ -29,7 +29,9 @@ pub(crate) fn unfold<'s>(
 ) -> Result<Part, AllocError>
     requires shallow { depth ≤ max_name_depth }
     requires fragments { AreFragments names.now.definitions.now fragments.now }
-    ensures { IfOk result (λ part. Unfolds (map definition_view names.now.definitions.now) depth (regex_of expr.now) (nodes_view nodes.old.items) (nodes_view nodes.new.items) part) }
+    ensures { IfOk result (λ part.
+        Unfolds (map definition_view names.now.definitions.now) depth (regex_of expr.now)
+        (nodes_view nodes.old.items) (nodes_view nodes.new.items) part) }
 {
     match expr {
         Expr::Nil => Ok(EMPTY),
@@ -70,7 +72,10 @@ fn unfold_definition<'s>(
 ) -> Result<Part, AllocError>
     requires shallow { depth ≤ max_name_depth }
     requires fragments { AreFragments names.now.definitions.now fragments.now }
-    ensures { IfOk result (λ part. UnfoldsName (map definition_view names.now.definitions.now) depth (tree_at names.now.definitions.now (Some number)) (nodes_view nodes.old.items) (nodes_view nodes.new.items) part) }
+    ensures { IfOk result (λ part.
+        UnfoldsName (map definition_view names.now.definitions.now) depth
+        (tree_at names.now.definitions.now (Some number)) (nodes_view nodes.old.items)
+        (nodes_view nodes.new.items) part) }
 {
     if depth == 0 {
         return Ok(EMPTY);
@@ -86,7 +91,8 @@ fn unfold_definition<'s>(
 
 // Appends a node for one byte of the set.
 fn append_leaf<'s>(set: &'s ByteSet, nodes: &mut Vec<Node<'s>>) -> Result<Part, AllocError>
-    ensures { IfOk result (λ part. Appends (leaf set.now) (nodes_view nodes.old.items) (nodes_view nodes.new.items) part) }
+    ensures { IfOk result (λ part.
+        Appends (leaf set.now) (nodes_view nodes.old.items) (nodes_view nodes.new.items) part) }
 {
     nodes.push(Node::Leaf(set))?;
     Ok(Part {

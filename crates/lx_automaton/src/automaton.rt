@@ -29,9 +29,14 @@ pub struct Automaton {
 impl Model for Automaton {
     ghost Value = { Machine };
 
-    ghost view = { λ a. machine_of a.starts.items a.classes.items a.width a.accepted.items a.targets.items };
+    ghost view = { λ a.
+        machine_of a.starts.items a.classes.items a.width a.accepted.items a.targets.items };
 
-    ghost invariant = { λ a. IsMachine (machine_of a.starts.items a.classes.items a.width a.accepted.items a.targets.items) × HasByteClasses (machine_of a.starts.items a.classes.items a.width a.accepted.items a.targets.items) };
+    ghost invariant = { λ a.
+        IsMachine
+        (machine_of a.starts.items a.classes.items a.width a.accepted.items a.targets.items)
+        × HasByteClasses (machine_of a.starts.items a.classes.items a.width a.accepted.items
+        a.targets.items) };
 }
 
 impl Automaton {
@@ -44,9 +49,12 @@ impl Automaton {
         accepted: Vec<u16>,
         targets: Vec<u16>,
     ) -> Automaton
-        requires machine { IsMachine (machine_of starts.items classes.items width accepted.items targets.items) }
-        requires classes { HasByteClasses (machine_of starts.items classes.items width accepted.items targets.items) }
-        ensures { result ≡ machine_of starts.items classes.items width accepted.items targets.items }
+        requires machine { IsMachine
+            (machine_of starts.items classes.items width accepted.items targets.items) }
+        requires classes { HasByteClasses
+            (machine_of starts.items classes.items width accepted.items targets.items) }
+        ensures { result
+            ≡ machine_of starts.items classes.items width accepted.items targets.items }
     {
         Automaton {
             starts,

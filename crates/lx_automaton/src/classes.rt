@@ -37,7 +37,8 @@ fn are_distinguished(
 fn first_distinguishing_state(draft: &Draft, class: usize, other: usize) -> Option<usize>
     requires class { class < draft.now.width }
     requires other { other < draft.now.width }
-    ensures { MatchOption result (HasSameColumns draft.now class other) (λ _. HasSameColumns draft.now class other → ⊥) }
+    ensures { MatchOption result (HasSameColumns draft.now class other)
+        (λ _. HasSameColumns draft.now class other → ⊥) }
 {
     for state in 0..draft.states() {
         if draft.encoded_target(state, class) != draft.encoded_target(state, other) {
@@ -75,7 +76,8 @@ fn has_same_columns(
 fn earlier_byte(draft: &Draft, byte: usize) -> Option<usize>
     requires { byte < 256 }
     ensures below { IfSome result (λ b. b < byte) }
-    ensures same { IfSome result (λ b. slice_index draft.now.classes b ≡ slice_index draft.now.classes byte) }
+    ensures same { IfSome result
+        (λ b. slice_index draft.now.classes b ≡ slice_index draft.now.classes byte) }
 {
     let class = draft.class(byte);
     for earlier in 0..byte {
@@ -94,7 +96,8 @@ fn number_for(
     distinguishing_states: &mut Vec<usize>,
 ) -> Result<usize, AllocError>
     requires class { class < draft.now.width }
-    requires classes { (j : ℕ) → j < length representatives.now → slice_index representatives.now j < draft.now.width }
+    requires classes { (j : ℕ) → j < length representatives.now
+        → slice_index representatives.now j < draft.now.width }
     ensures { IfOk result (IsNumberFor draft.now representatives.now class) }
 {
     for number in 0..representatives.len() {
@@ -120,7 +123,8 @@ fn add_byte(
 ) -> Result<(), AllocError>
     requires byte { byte < 256 }
     requires numbers { AreNumbersBelow draft.now byte numbers.old.items representatives.old.items }
-    ensures { OnOk result (AreNumbersBelow draft.now (byte + 1) numbers.new.items representatives.new.items) }
+    ensures { OnOk result
+        (AreNumbersBelow draft.now (byte + 1) numbers.new.items representatives.new.items) }
 {
     if let Some(earlier) = earlier_byte(draft, byte) {
         let number = numbers[earlier];
@@ -145,9 +149,12 @@ fn add_row(
     encoded: &mut Vec<u16>,
 ) -> Result<(), AllocError>
     requires state { state < state_count draft.now }
-    requires classes { (j : ℕ) → j < length representatives.now → slice_index representatives.now j < draft.now.width }
-    requires rows { AreRows draft.now representatives.now encoded.old.items (state * length representatives.now) }
-    ensures { OnOk result (AreRows draft.now representatives.now encoded.new.items ((state + 1) * length representatives.now)) }
+    requires classes { (j : ℕ) → j < length representatives.now
+        → slice_index representatives.now j < draft.now.width }
+    requires rows { AreRows draft.now representatives.now encoded.old.items
+        (state * length representatives.now) }
+    ensures { OnOk result (AreRows draft.now representatives.now encoded.new.items
+        ((state + 1) * length representatives.now)) }
 {
     for number in 0..representatives.len() {
         let target = draft.encoded_target(state, representatives[number] as usize);
@@ -158,8 +165,11 @@ fn add_row(
 
 /// Makes the rows of all states over the representatives.
 fn rows_over(alloc: Global, draft: &Draft, representatives: &[u8]) -> Result<Vec<u16>, AllocError>
-    requires classes { (j : ℕ) → j < length representatives.now → slice_index representatives.now j < draft.now.width }
-    ensures { IfOk result (λ encoded. AreRows draft.now representatives.now encoded.items (state_count draft.now * length representatives.now)) }
+    requires classes { (j : ℕ) → j < length representatives.now
+        → slice_index representatives.now j < draft.now.width }
+    ensures { IfOk result (λ encoded.
+        AreRows draft.now representatives.now encoded.items
+        (state_count draft.now * length representatives.now)) }
 {
     let mut encoded = Vec::new(alloc);
     for state in 0..draft.states() {
@@ -178,10 +188,13 @@ impl Automaton {
         accepted: Vec<u16>,
         targets: Vec<u16>,
     ) -> Result<Automaton, AllocError>
-        requires { IsMachine (machine_of starts.items classes.items width accepted.items targets.items) }
+        requires { IsMachine
+            (machine_of starts.items classes.items width accepted.items targets.items) }
         ensures machine { IfOk result (λ a. IsMachine a) }
         ensures classes { IfOk result (λ a. HasByteClasses a) }
-        ensures steps { IfOk result (λ a. HasSameSteps (machine_of starts.items classes.items width accepted.items targets.items) a) }
+        ensures steps { IfOk result (λ a.
+            HasSameSteps
+            (machine_of starts.items classes.items width accepted.items targets.items) a) }
     {
         let draft = Draft::of(starts, classes, width, accepted, targets);
         with_byte_classes(alloc, &draft)

@@ -20,9 +20,12 @@ pub struct Draft {
 impl Model for Draft {
     ghost Value = { Machine };
 
-    ghost view = { λ d. machine_of d.starts.items d.classes.items d.width d.accepted.items d.targets.items };
+    ghost view = { λ d.
+        machine_of d.starts.items d.classes.items d.width d.accepted.items d.targets.items };
 
-    ghost invariant = { λ d. IsMachine (machine_of d.starts.items d.classes.items d.width d.accepted.items d.targets.items) };
+    ghost invariant = { λ d.
+        IsMachine
+        (machine_of d.starts.items d.classes.items d.width d.accepted.items d.targets.items) };
 }
 
 impl Draft {
@@ -61,8 +64,10 @@ impl Draft {
         accepted: Vec<u16>,
         targets: Vec<u16>,
     ) -> Draft
-        requires { IsMachine (machine_of starts.items classes.items width accepted.items targets.items) }
-        ensures { result ≡ machine_of starts.items classes.items width accepted.items targets.items }
+        requires { IsMachine
+            (machine_of starts.items classes.items width accepted.items targets.items) }
+        ensures { result
+            ≡ machine_of starts.items classes.items width accepted.items targets.items }
     {
         Draft {
             starts,

@@ -27,7 +27,9 @@ pub fn starts_of(
 ) -> Result<Vec<(u32, u32)>, AllocError>
     requires met { AreAllMet state_order.now.states.items state_order.now.encoded_options.items }
     requires long { length state_order.now.encoded_options.items ≡ state_count automaton.now }
-    ensures { IfOk result (λ starts. AreStarts automaton.now state_order.now.encoded_options.items starts.items (length automaton.now.starts)) }
+    ensures { IfOk result (λ starts.
+        AreStarts automaton.now state_order.now.encoded_options.items starts.items
+        (length automaton.now.starts)) }
 {
     let mut starts = Vec::new(alloc);
     for condition in 0..automaton.conditions() {
@@ -71,7 +73,9 @@ pub fn accepted_of(
     requires met { AreAllMet state_order.now.states.items state_order.now.encoded_options.items }
     requires long { length state_order.now.encoded_options.items ≡ state_count automaton.now }
     requires rules { rules ≤ max_rules }
-    ensures { IfOk result (λ accepted. AreAccepted automaton.now rules state_order.now.states.items accepted.items (length state_order.now.states.items)) }
+    ensures { IfOk result (λ accepted.
+        AreAccepted automaton.now rules state_order.now.states.items accepted.items
+        (length state_order.now.states.items)) }
 {
     let mut accepted = Vec::new(alloc);
     for place in 0..state_order.states.len() {
@@ -86,7 +90,8 @@ fn encoded_target(automaton: &Automaton, state_order: &StateOrder, state: u32, c
     requires long { length state_order.now.encoded_options.items ≡ state_count automaton.now }
     requires state { state < state_count automaton.now }
     requires class { class < automaton.now.width }
-    ensures { result ≡ encoded_option_of state_order.now.encoded_options.items (class_target automaton.now state class) }
+    ensures { result ≡ encoded_option_of state_order.now.encoded_options.items
+        (class_target automaton.now state class) }
 {
     match automaton.class_step(State(state), class) {
         None => 0,
@@ -104,8 +109,11 @@ fn add_row(
     requires met { AreAllMet state_order.now.states.items state_order.now.encoded_options.items }
     requires long { length state_order.now.encoded_options.items ≡ state_count automaton.now }
     requires place { place < length state_order.now.states.items }
-    requires rows { AreRows automaton.now state_order.now.states.items state_order.now.encoded_options.items targets.old.items (place * automaton.now.width) }
-    ensures { OnOk result (AreRows automaton.now state_order.now.states.items state_order.now.encoded_options.items targets.new.items ((place + 1) * automaton.now.width)) }
+    requires rows { AreRows automaton.now state_order.now.states.items
+        state_order.now.encoded_options.items targets.old.items (place * automaton.now.width) }
+    ensures { OnOk result (AreRows automaton.now state_order.now.states.items
+        state_order.now.encoded_options.items targets.new.items
+        ((place + 1) * automaton.now.width)) }
 {
     for class in 0..automaton.classes() {
         let encoded_option = encoded_target(
@@ -127,7 +135,9 @@ pub fn rows_of(
 ) -> Result<Vec<u16>, AllocError>
     requires met { AreAllMet state_order.now.states.items state_order.now.encoded_options.items }
     requires long { length state_order.now.encoded_options.items ≡ state_count automaton.now }
-    ensures { IfOk result (λ targets. AreRows automaton.now state_order.now.states.items state_order.now.encoded_options.items targets.items (length state_order.now.states.items * automaton.now.width)) }
+    ensures { IfOk result (λ targets.
+        AreRows automaton.now state_order.now.states.items state_order.now.encoded_options.items
+        targets.items (length state_order.now.states.items * automaton.now.width)) }
 {
     let mut targets = Vec::new(alloc);
     for place in 0..state_order.states.len() {

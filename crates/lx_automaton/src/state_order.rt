@@ -22,10 +22,13 @@ fn meet(state_order: &mut StateOrder, state: u32) -> Result<(), AllocError>
     requires met { AreMet state_order.old.states.items state_order.old.encoded_options.items }
     requires state { state < length state_order.old.encoded_options.items }
     requires few { length state_order.old.encoded_options.items ≤ max_states }
-    ensures met { OnOk result (AreMet state_order.new.states.items state_order.new.encoded_options.items) }
-    ensures long { OnOk result (length state_order.new.encoded_options.items ≡ length state_order.old.encoded_options.items) }
+    ensures met { OnOk result
+        (AreMet state_order.new.states.items state_order.new.encoded_options.items) }
+    ensures long { OnOk result (length state_order.new.encoded_options.items
+        ≡ length state_order.old.encoded_options.items) }
     ensures there { OnOk result (slice_index state_order.new.encoded_options.items state ≢ 0) }
-    ensures kept { OnOk result ((s : ℕ) → slice_index state_order.old.encoded_options.items s ≢ 0 → slice_index state_order.new.encoded_options.items s ≢ 0) }
+    ensures kept { OnOk result ((s : ℕ) → slice_index state_order.old.encoded_options.items s ≢ 0
+        → slice_index state_order.new.encoded_options.items s ≢ 0) }
 {
     if state_order.encoded_options[state as usize] != 0 {
         return Ok(());
@@ -40,8 +43,10 @@ fn meet(state_order: &mut StateOrder, state: u32) -> Result<(), AllocError>
 fn meet_starts(automaton: &Automaton, state_order: &mut StateOrder) -> Result<(), AllocError>
     requires met { AreMet state_order.old.states.items state_order.old.encoded_options.items }
     requires long { length state_order.old.encoded_options.items ≡ state_count automaton.now }
-    ensures met { OnOk result (AreMet state_order.new.states.items state_order.new.encoded_options.items) }
-    ensures long { OnOk result (length state_order.new.encoded_options.items ≡ state_count automaton.now) }
+    ensures met { OnOk result
+        (AreMet state_order.new.states.items state_order.new.encoded_options.items) }
+    ensures long { OnOk result
+        (length state_order.new.encoded_options.items ≡ state_count automaton.now) }
 {
     for condition in 0..automaton.conditions() {
         meet(state_order, automaton.start(condition, false).0)?;
@@ -59,8 +64,10 @@ fn meet_targets(
     requires met { AreMet state_order.old.states.items state_order.old.encoded_options.items }
     requires long { length state_order.old.encoded_options.items ≡ state_count automaton.now }
     requires state { state < state_count automaton.now }
-    ensures met { OnOk result (AreMet state_order.new.states.items state_order.new.encoded_options.items) }
-    ensures long { OnOk result (length state_order.new.encoded_options.items ≡ state_count automaton.now) }
+    ensures met { OnOk result
+        (AreMet state_order.new.states.items state_order.new.encoded_options.items) }
+    ensures long { OnOk result
+        (length state_order.new.encoded_options.items ≡ state_count automaton.now) }
 {
     for class in 0..automaton.classes() {
         if let Some(target) = automaton.class_step(State(state), class as u8) {
@@ -74,8 +81,10 @@ fn meet_targets(
 fn meet_others(automaton: &Automaton, state_order: &mut StateOrder) -> Result<(), AllocError>
     requires met { AreMet state_order.old.states.items state_order.old.encoded_options.items }
     requires long { length state_order.old.encoded_options.items ≡ state_count automaton.now }
-    ensures met { OnOk result (AreAllMet state_order.new.states.items state_order.new.encoded_options.items) }
-    ensures long { OnOk result (length state_order.new.encoded_options.items ≡ state_count automaton.now) }
+    ensures met { OnOk result
+        (AreAllMet state_order.new.states.items state_order.new.encoded_options.items) }
+    ensures long { OnOk result
+        (length state_order.new.encoded_options.items ≡ state_count automaton.now) }
 {
     for state in 0..automaton.states() {
         meet(state_order, state)?;
@@ -85,8 +94,10 @@ fn meet_others(automaton: &Automaton, state_order: &mut StateOrder) -> Result<()
 
 /// Returns the new order of all states.
 pub fn state_order_of(alloc: Global, automaton: &Automaton) -> Result<StateOrder, AllocError>
-    ensures met { IfOk result (λ state_order. AreAllMet state_order.states.items state_order.encoded_options.items) }
-    ensures long { IfOk result (λ state_order. length state_order.encoded_options.items ≡ state_count automaton.now) }
+    ensures met { IfOk result
+        (λ state_order. AreAllMet state_order.states.items state_order.encoded_options.items) }
+    ensures long { IfOk result
+        (λ state_order. length state_order.encoded_options.items ≡ state_count automaton.now) }
 {
     let encoded_options = vec![in alloc; 0u16; automaton.states() as usize]?;
     let mut state_order = StateOrder {

@@ -50,8 +50,10 @@ fn write_kind_word<W: Write>(
     place: u32,
 ) -> Result<(), io::Error>
     requires { first ≤ max_first_kind }
-    ensures ok { OnOk result (Wrote (W.contents out.old) (W.contents out.new) (kind_word options.now first tables.now place)) }
-    ensures err { OnErr result (WrotePrefix (W.contents out.old) (W.contents out.new) (kind_word options.now first tables.now place)) }
+    ensures ok { OnOk result (Wrote (W.contents out.old) (W.contents out.new)
+        (kind_word options.now first tables.now place)) }
+    ensures err { OnErr result (WrotePrefix (W.contents out.old) (W.contents out.new)
+        (kind_word options.now first tables.now place)) }
 {
     if options.has_include() {
         write_bytes(out, kind_name(tables, place))
@@ -62,15 +64,19 @@ fn write_kind_word<W: Write>(
 
 fn write_number_of_kind<W: Write>(out: &mut W, first: u64, place: u32) -> Result<(), io::Error>
     requires { first ≤ max_first_kind }
-    ensures ok { OnOk result (Wrote (W.contents out.old) (W.contents out.new) (number (first + place))) }
-    ensures err { OnErr result (WrotePrefix (W.contents out.old) (W.contents out.new) (number (first + place))) }
+    ensures ok { OnOk result
+        (Wrote (W.contents out.old) (W.contents out.new) (number (first + place))) }
+    ensures err { OnErr result
+        (WrotePrefix (W.contents out.old) (W.contents out.new) (number (first + place))) }
 {
     write_numbered(out, b"", first + u64::from(place))
 }
 
 fn write_condition_number<W: Write>(out: &mut W, condition: u16) -> Result<(), io::Error>
-    ensures ok { OnOk result (Wrote (W.contents out.old) (W.contents out.new) (codes "-" ++ number (4 + condition))) }
-    ensures err { OnErr result (WrotePrefix (W.contents out.old) (W.contents out.new) (codes "-" ++ number (4 + condition))) }
+    ensures ok { OnOk result
+        (Wrote (W.contents out.old) (W.contents out.new) (codes "-" ++ number (4 + condition))) }
+    ensures err { OnErr result (WrotePrefix (W.contents out.old) (W.contents out.new)
+        (codes "-" ++ number (4 + condition))) }
 {
     write_numbered(out, b"-", 4 + u64::from(condition))
 }
@@ -83,8 +89,10 @@ fn write_step_word<W: Write>(
     step: Step,
 ) -> Result<(), io::Error>
     requires { first ≤ max_first_kind }
-    ensures ok { OnOk result (Wrote (W.contents out.old) (W.contents out.new) (step_word options.now first tables.now step)) }
-    ensures err { OnErr result (WrotePrefix (W.contents out.old) (W.contents out.new) (step_word options.now first tables.now step)) }
+    ensures ok { OnOk result (Wrote (W.contents out.old) (W.contents out.new)
+        (step_word options.now first tables.now step)) }
+    ensures err { OnErr result (WrotePrefix (W.contents out.old) (W.contents out.new)
+        (step_word options.now first tables.now step)) }
 {
     match step {
         Step::Echo => write_bytes(out, b"-2"),
@@ -102,8 +110,10 @@ fn write_step_entry<W: Write>(
     step: Step,
 ) -> Result<(), io::Error>
     requires { first ≤ max_first_kind }
-    ensures ok { OnOk result (Wrote (W.contents out.old) (W.contents out.new) (step_entry options.now first tables.now step)) }
-    ensures err { OnErr result (WrotePrefix (W.contents out.old) (W.contents out.new) (step_entry options.now first tables.now step)) }
+    ensures ok { OnOk result (Wrote (W.contents out.old) (W.contents out.new)
+        (step_entry options.now first tables.now step)) }
+    ensures err { OnErr result (WrotePrefix (W.contents out.old) (W.contents out.new)
+        (step_entry options.now first tables.now step)) }
 {
     write_step_word(out, options, first, tables, step)?;
     write_bytes(out, b",")
@@ -117,8 +127,10 @@ fn write_step_entries<W: Write>(
     steps: &[Step],
 ) -> Result<(), io::Error>
     requires { first ≤ max_first_kind }
-    ensures ok { OnOk result (Wrote (W.contents out.old) (W.contents out.new) (flat_map (step_entry options.now first tables.now) steps.now)) }
-    ensures err { OnErr result (WrotePrefix (W.contents out.old) (W.contents out.new) (flat_map (step_entry options.now first tables.now) steps.now)) }
+    ensures ok { OnOk result (Wrote (W.contents out.old) (W.contents out.new)
+        (flat_map (step_entry options.now first tables.now) steps.now)) }
+    ensures err { OnErr result (WrotePrefix (W.contents out.old) (W.contents out.new)
+        (flat_map (step_entry options.now first tables.now) steps.now)) }
 {
     for step in steps {
         write_step_entry(out, options, first, tables, *step)?;
@@ -135,8 +147,14 @@ fn write_own_steps<W: Write>(
     steps: &[Step],
 ) -> Result<(), io::Error>
     requires { first ≤ max_first_kind }
-    ensures ok { OnOk result (Wrote (W.contents out.old) (W.contents out.new) (filled options.now.prefix STEP_ARRAY.now ++ number_then rule (codes "[] = {") ++ flat_map (step_entry options.now first tables.now) steps.now ++ codes "-1};\n")) }
-    ensures err { OnErr result (WrotePrefix (W.contents out.old) (W.contents out.new) (filled options.now.prefix STEP_ARRAY.now ++ number_then rule (codes "[] = {") ++ flat_map (step_entry options.now first tables.now) steps.now ++ codes "-1};\n")) }
+    ensures ok { OnOk result (Wrote (W.contents out.old) (W.contents out.new) (filled
+        options.now.prefix STEP_ARRAY.now ++ number_then rule (codes "[] = {")
+        ++ flat_map (step_entry options.now first tables.now) steps.now
+        ++ codes "-1};\n")) }
+    ensures err { OnErr result (WrotePrefix (W.contents out.old) (W.contents out.new) (filled
+        options.now.prefix STEP_ARRAY.now ++ number_then rule (codes "[] = {")
+        ++ flat_map (step_entry options.now first tables.now) steps.now
+        ++ codes "-1};\n")) }
 {
     write_filled(out, options, STEP_ARRAY)?;
     write_number_then(out, rule, b"[] = {")?;
@@ -153,8 +171,10 @@ fn write_steps_array<W: Write>(
     steps: &[Step],
 ) -> Result<(), io::Error>
     requires { first ≤ max_first_kind }
-    ensures ok { OnOk result (Wrote (W.contents out.old) (W.contents out.new) (steps_array options.now first tables.now rule steps.now)) }
-    ensures err { OnErr result (WrotePrefix (W.contents out.old) (W.contents out.new) (steps_array options.now first tables.now rule steps.now)) }
+    ensures ok { OnOk result (Wrote (W.contents out.old) (W.contents out.new)
+        (steps_array options.now first tables.now rule steps.now)) }
+    ensures err { OnErr result (WrotePrefix (W.contents out.old) (W.contents out.new)
+        (steps_array options.now first tables.now rule steps.now)) }
 {
     if is_simple(steps) {
         Ok(())
@@ -170,8 +190,12 @@ fn write_steps_arrays<W: Write>(
     tables: &Tables,
 ) -> Result<(), io::Error>
     requires { first ≤ max_first_kind }
-    ensures ok { OnOk result (Wrote (W.contents out.old) (W.contents out.new) (flat_map (λ r. steps_array options.now first tables.now r (rule_at tables.now r).steps) (range_with_len 0 (length tables.now.rules)))) }
-    ensures err { OnErr result (WrotePrefix (W.contents out.old) (W.contents out.new) (flat_map (λ r. steps_array options.now first tables.now r (rule_at tables.now r).steps) (range_with_len 0 (length tables.now.rules)))) }
+    ensures ok { OnOk result (Wrote (W.contents out.old) (W.contents out.new) (flat_map
+        (λ r. steps_array options.now first tables.now r (rule_at tables.now r).steps)
+        (range_with_len 0 (length tables.now.rules)))) }
+    ensures err { OnErr result (WrotePrefix (W.contents out.old) (W.contents out.new) (flat_map
+        (λ r. steps_array options.now first tables.now r (rule_at tables.now r).steps)
+        (range_with_len 0 (length tables.now.rules)))) }
 {
     for rule in 0..tables.rules() {
         write_steps_array(
@@ -191,8 +215,10 @@ fn write_place_of_steps<W: Write>(
     options: &Options,
     rule: u64,
 ) -> Result<(), io::Error>
-    ensures ok { OnOk result (Wrote (W.contents out.old) (W.contents out.new) (filled options.now.prefix STEPS_OF.now ++ number_then rule (codes ",\n"))) }
-    ensures err { OnErr result (WrotePrefix (W.contents out.old) (W.contents out.new) (filled options.now.prefix STEPS_OF.now ++ number_then rule (codes ",\n"))) }
+    ensures ok { OnOk result (Wrote (W.contents out.old) (W.contents out.new)
+        (filled options.now.prefix STEPS_OF.now ++ number_then rule (codes ",\n"))) }
+    ensures err { OnErr result (WrotePrefix (W.contents out.old) (W.contents out.new)
+        (filled options.now.prefix STEPS_OF.now ++ number_then rule (codes ",\n"))) }
 {
     write_filled(out, options, STEPS_OF)?;
     write_number_then(out, rule, b",\n")
@@ -204,8 +230,10 @@ fn write_steps_entry<W: Write>(
     rule: u64,
     steps: &[Step],
 ) -> Result<(), io::Error>
-    ensures ok { OnOk result (Wrote (W.contents out.old) (W.contents out.new) (steps_entry options.now rule steps.now)) }
-    ensures err { OnErr result (WrotePrefix (W.contents out.old) (W.contents out.new) (steps_entry options.now rule steps.now)) }
+    ensures ok { OnOk result
+        (Wrote (W.contents out.old) (W.contents out.new) (steps_entry options.now rule steps.now)) }
+    ensures err { OnErr result (WrotePrefix (W.contents out.old) (W.contents out.new)
+        (steps_entry options.now rule steps.now)) }
 {
     if is_simple(steps) {
         write_bytes(out, b"0,\n")
@@ -219,8 +247,12 @@ fn write_steps_entries<W: Write>(
     options: &Options,
     tables: &Tables,
 ) -> Result<(), io::Error>
-    ensures ok { OnOk result (Wrote (W.contents out.old) (W.contents out.new) (flat_map (λ r. steps_entry options.now r (rule_at tables.now r).steps) (range_with_len 0 (length tables.now.rules)))) }
-    ensures err { OnErr result (WrotePrefix (W.contents out.old) (W.contents out.new) (flat_map (λ r. steps_entry options.now r (rule_at tables.now r).steps) (range_with_len 0 (length tables.now.rules)))) }
+    ensures ok { OnOk result (Wrote (W.contents out.old) (W.contents out.new) (flat_map
+        (λ r. steps_entry options.now r (rule_at tables.now r).steps)
+        (range_with_len 0 (length tables.now.rules)))) }
+    ensures err { OnErr result (WrotePrefix (W.contents out.old) (W.contents out.new) (flat_map
+        (λ r. steps_entry options.now r (rule_at tables.now r).steps)
+        (range_with_len 0 (length tables.now.rules)))) }
 {
     for rule in 0..tables.rules() {
         write_steps_entry(out, options, u64::from(rule), tables.steps(rule))?;
@@ -236,8 +268,10 @@ fn write_action_word<W: Write>(
     steps: &[Step],
 ) -> Result<(), io::Error>
     requires { first ≤ max_first_kind }
-    ensures ok { OnOk result (Wrote (W.contents out.old) (W.contents out.new) (action_word options.now first tables.now steps.now)) }
-    ensures err { OnErr result (WrotePrefix (W.contents out.old) (W.contents out.new) (action_word options.now first tables.now steps.now)) }
+    ensures ok { OnOk result (Wrote (W.contents out.old) (W.contents out.new)
+        (action_word options.now first tables.now steps.now)) }
+    ensures err { OnErr result (WrotePrefix (W.contents out.old) (W.contents out.new)
+        (action_word options.now first tables.now steps.now)) }
 {
     match steps.first() {
         None => write_bytes(out, b"-1"),
@@ -256,8 +290,10 @@ fn write_action_entry<W: Write>(
     steps: &[Step],
 ) -> Result<(), io::Error>
     requires { first ≤ max_first_kind }
-    ensures ok { OnOk result (Wrote (W.contents out.old) (W.contents out.new) (action_entry options.now first tables.now steps.now)) }
-    ensures err { OnErr result (WrotePrefix (W.contents out.old) (W.contents out.new) (action_entry options.now first tables.now steps.now)) }
+    ensures ok { OnOk result (Wrote (W.contents out.old) (W.contents out.new)
+        (action_entry options.now first tables.now steps.now)) }
+    ensures err { OnErr result (WrotePrefix (W.contents out.old) (W.contents out.new)
+        (action_entry options.now first tables.now steps.now)) }
 {
     write_action_word(out, options, first, tables, steps)?;
     write_bytes(out, b",\n")
@@ -270,8 +306,12 @@ fn write_action_entries<W: Write>(
     tables: &Tables,
 ) -> Result<(), io::Error>
     requires { first ≤ max_first_kind }
-    ensures ok { OnOk result (Wrote (W.contents out.old) (W.contents out.new) (flat_map (λ r. action_entry options.now first tables.now (rule_at tables.now r).steps) (range_with_len 0 (length tables.now.rules)))) }
-    ensures err { OnErr result (WrotePrefix (W.contents out.old) (W.contents out.new) (flat_map (λ r. action_entry options.now first tables.now (rule_at tables.now r).steps) (range_with_len 0 (length tables.now.rules)))) }
+    ensures ok { OnOk result (Wrote (W.contents out.old) (W.contents out.new) (flat_map
+        (λ r. action_entry options.now first tables.now (rule_at tables.now r).steps)
+        (range_with_len 0 (length tables.now.rules)))) }
+    ensures err { OnErr result (WrotePrefix (W.contents out.old) (W.contents out.new) (flat_map
+        (λ r. action_entry options.now first tables.now (rule_at tables.now r).steps)
+        (range_with_len 0 (length tables.now.rules)))) }
 {
     for rule in 0..tables.rules() {
         write_action_entry(out, options, first, tables, tables.steps(rule))?;
@@ -280,8 +320,10 @@ fn write_action_entries<W: Write>(
 }
 
 fn write_line_end_entry<W: Write>(out: &mut W, line_end: bool) -> Result<(), io::Error>
-    ensures ok { OnOk result (Wrote (W.contents out.old) (W.contents out.new) (line_end_entry line_end)) }
-    ensures err { OnErr result (WrotePrefix (W.contents out.old) (W.contents out.new) (line_end_entry line_end)) }
+    ensures ok { OnOk result
+        (Wrote (W.contents out.old) (W.contents out.new) (line_end_entry line_end)) }
+    ensures err { OnErr result
+        (WrotePrefix (W.contents out.old) (W.contents out.new) (line_end_entry line_end)) }
 {
     if line_end {
         write_bytes(out, b"1,\n")
@@ -291,8 +333,12 @@ fn write_line_end_entry<W: Write>(out: &mut W, line_end: bool) -> Result<(), io:
 }
 
 fn write_line_end_entries<W: Write>(out: &mut W, tables: &Tables) -> Result<(), io::Error>
-    ensures ok { OnOk result (Wrote (W.contents out.old) (W.contents out.new) (flat_map (λ r. line_end_entry (rule_at tables.now r).line_end) (range_with_len 0 (length tables.now.rules)))) }
-    ensures err { OnErr result (WrotePrefix (W.contents out.old) (W.contents out.new) (flat_map (λ r. line_end_entry (rule_at tables.now r).line_end) (range_with_len 0 (length tables.now.rules)))) }
+    ensures ok { OnOk result (Wrote (W.contents out.old) (W.contents out.new) (flat_map
+        (λ r. line_end_entry (rule_at tables.now r).line_end)
+        (range_with_len 0 (length tables.now.rules)))) }
+    ensures err { OnErr result (WrotePrefix (W.contents out.old) (W.contents out.new) (flat_map
+        (λ r. line_end_entry (rule_at tables.now r).line_end)
+        (range_with_len 0 (length tables.now.rules)))) }
 {
     for rule in 0..tables.rules() {
         write_line_end_entry(out, tables.cut(rule))?;
@@ -301,22 +347,30 @@ fn write_line_end_entries<W: Write>(out: &mut W, tables: &Tables) -> Result<(), 
 }
 
 fn write_name_entry<W: Write>(out: &mut W, kind: &[u8]) -> Result<(), io::Error>
-    ensures ok { OnOk result (Wrote (W.contents out.old) (W.contents out.new) (name_entry kind.now)) }
-    ensures err { OnErr result (WrotePrefix (W.contents out.old) (W.contents out.new) (name_entry kind.now)) }
+    ensures ok { OnOk result
+        (Wrote (W.contents out.old) (W.contents out.new) (name_entry kind.now)) }
+    ensures err { OnErr result
+        (WrotePrefix (W.contents out.old) (W.contents out.new) (name_entry kind.now)) }
 {
     write_parts(out, &[b"\"", kind, b"\",\n"])
 }
 
 fn write_kind_entry<W: Write>(out: &mut W, kind: &[u8]) -> Result<(), io::Error>
-    ensures ok { OnOk result (Wrote (W.contents out.old) (W.contents out.new) (kind_entry kind.now)) }
-    ensures err { OnErr result (WrotePrefix (W.contents out.old) (W.contents out.new) (kind_entry kind.now)) }
+    ensures ok { OnOk result
+        (Wrote (W.contents out.old) (W.contents out.new) (kind_entry kind.now)) }
+    ensures err { OnErr result
+        (WrotePrefix (W.contents out.old) (W.contents out.new) (kind_entry kind.now)) }
 {
     write_parts(out, &[kind, b",\n"])
 }
 
 fn write_name_entries<W: Write>(out: &mut W, tables: &Tables) -> Result<(), io::Error>
-    ensures ok { OnOk result (Wrote (W.contents out.old) (W.contents out.new) (flat_map (λ k. name_entry (kind_at tables.now k)) (range_with_len 0 (length tables.now.kinds)))) }
-    ensures err { OnErr result (WrotePrefix (W.contents out.old) (W.contents out.new) (flat_map (λ k. name_entry (kind_at tables.now k)) (range_with_len 0 (length tables.now.kinds)))) }
+    ensures ok { OnOk result (Wrote (W.contents out.old) (W.contents out.new) (flat_map
+        (λ k. name_entry (kind_at tables.now k))
+        (range_with_len 0 (length tables.now.kinds)))) }
+    ensures err { OnErr result (WrotePrefix (W.contents out.old) (W.contents out.new) (flat_map
+        (λ k. name_entry (kind_at tables.now k))
+        (range_with_len 0 (length tables.now.kinds)))) }
 {
     for place in 0..tables.kinds() {
         write_name_entry(out, tables.kind(place))?;
@@ -325,8 +379,12 @@ fn write_name_entries<W: Write>(out: &mut W, tables: &Tables) -> Result<(), io::
 }
 
 fn write_kind_entries<W: Write>(out: &mut W, tables: &Tables) -> Result<(), io::Error>
-    ensures ok { OnOk result (Wrote (W.contents out.old) (W.contents out.new) (flat_map (λ k. kind_entry (kind_at tables.now k)) (range_with_len 0 (length tables.now.kinds)))) }
-    ensures err { OnErr result (WrotePrefix (W.contents out.old) (W.contents out.new) (flat_map (λ k. kind_entry (kind_at tables.now k)) (range_with_len 0 (length tables.now.kinds)))) }
+    ensures ok { OnOk result (Wrote (W.contents out.old) (W.contents out.new) (flat_map
+        (λ k. kind_entry (kind_at tables.now k))
+        (range_with_len 0 (length tables.now.kinds)))) }
+    ensures err { OnErr result (WrotePrefix (W.contents out.old) (W.contents out.new) (flat_map
+        (λ k. kind_entry (kind_at tables.now k))
+        (range_with_len 0 (length tables.now.kinds)))) }
 {
     for place in 0..tables.kinds() {
         write_kind_entry(out, tables.kind(place))?;
@@ -335,8 +393,10 @@ fn write_kind_entries<W: Write>(out: &mut W, tables: &Tables) -> Result<(), io::
 }
 
 fn write_steps<W: Write>(out: &mut W, options: &Options, tables: &Tables) -> Result<(), io::Error>
-    ensures ok { OnOk result (Wrote (W.contents out.old) (W.contents out.new) (steps_text options.now tables.now)) }
-    ensures err { OnErr result (WrotePrefix (W.contents out.old) (W.contents out.new) (steps_text options.now tables.now)) }
+    ensures ok { OnOk result
+        (Wrote (W.contents out.old) (W.contents out.new) (steps_text options.now tables.now)) }
+    ensures err { OnErr result (WrotePrefix (W.contents out.old) (W.contents out.new)
+        (steps_text options.now tables.now)) }
 {
     write_filled(out, options, STEPS)?;
     write_steps_entries(out, options, tables)?;
@@ -350,8 +410,10 @@ fn write_actions_array<W: Write>(
     tables: &Tables,
 ) -> Result<(), io::Error>
     requires { first ≤ max_first_kind }
-    ensures ok { OnOk result (Wrote (W.contents out.old) (W.contents out.new) (array_text options.now ACTIONS.now (action_entries options.now first tables.now))) }
-    ensures err { OnErr result (WrotePrefix (W.contents out.old) (W.contents out.new) (array_text options.now ACTIONS.now (action_entries options.now first tables.now))) }
+    ensures ok { OnOk result (Wrote (W.contents out.old) (W.contents out.new)
+        (array_text options.now ACTIONS.now (action_entries options.now first tables.now))) }
+    ensures err { OnErr result (WrotePrefix (W.contents out.old) (W.contents out.new)
+        (array_text options.now ACTIONS.now (action_entries options.now first tables.now))) }
 {
     write_filled(out, options, ACTIONS)?;
     write_action_entries(out, options, first, tables)?;
@@ -363,8 +425,10 @@ fn write_line_ends_array<W: Write>(
     options: &Options,
     tables: &Tables,
 ) -> Result<(), io::Error>
-    ensures ok { OnOk result (Wrote (W.contents out.old) (W.contents out.new) (array_text options.now LINE_ENDS.now (line_end_entries tables.now))) }
-    ensures err { OnErr result (WrotePrefix (W.contents out.old) (W.contents out.new) (array_text options.now LINE_ENDS.now (line_end_entries tables.now))) }
+    ensures ok { OnOk result (Wrote (W.contents out.old) (W.contents out.new)
+        (array_text options.now LINE_ENDS.now (line_end_entries tables.now))) }
+    ensures err { OnErr result (WrotePrefix (W.contents out.old) (W.contents out.new)
+        (array_text options.now LINE_ENDS.now (line_end_entries tables.now))) }
 {
     write_filled(out, options, LINE_ENDS)?;
     write_line_end_entries(out, tables)?;
@@ -376,8 +440,12 @@ fn write_some_line_ends<W: Write>(
     options: &Options,
     tables: &Tables,
 ) -> Result<(), io::Error>
-    ensures ok { OnOk result (Wrote (W.contents out.old) (W.contents out.new) (filled options.now.prefix LINE_END.now ++ array_text options.now LINE_ENDS.now (line_end_entries tables.now))) }
-    ensures err { OnErr result (WrotePrefix (W.contents out.old) (W.contents out.new) (filled options.now.prefix LINE_END.now ++ array_text options.now LINE_ENDS.now (line_end_entries tables.now))) }
+    ensures ok { OnOk result (Wrote (W.contents out.old) (W.contents out.new) (filled
+        options.now.prefix LINE_END.now
+        ++ array_text options.now LINE_ENDS.now (line_end_entries tables.now))) }
+    ensures err { OnErr result (WrotePrefix (W.contents out.old) (W.contents out.new) (filled
+        options.now.prefix LINE_END.now
+        ++ array_text options.now LINE_ENDS.now (line_end_entries tables.now))) }
 {
     write_filled(out, options, LINE_END)?;
     write_line_ends_array(out, options, tables)
@@ -388,8 +456,10 @@ fn write_line_ends<W: Write>(
     options: &Options,
     tables: &Tables,
 ) -> Result<(), io::Error>
-    ensures ok { OnOk result (Wrote (W.contents out.old) (W.contents out.new) (line_ends_text options.now tables.now)) }
-    ensures err { OnErr result (WrotePrefix (W.contents out.old) (W.contents out.new) (line_ends_text options.now tables.now)) }
+    ensures ok { OnOk result
+        (Wrote (W.contents out.old) (W.contents out.new) (line_ends_text options.now tables.now)) }
+    ensures err { OnErr result (WrotePrefix (W.contents out.old) (W.contents out.new)
+        (line_ends_text options.now tables.now)) }
 {
     if has_line_ends(tables) {
         write_some_line_ends(out, options, tables)
@@ -431,8 +501,10 @@ fn has_echoes(tables: &Tables) -> bool
 }
 
 fn write_pending<W: Write>(out: &mut W, options: &Options, tables: &Tables) -> Result<(), io::Error>
-    ensures ok { OnOk result (Wrote (W.contents out.old) (W.contents out.new) (pending_text options.now tables.now)) }
-    ensures err { OnErr result (WrotePrefix (W.contents out.old) (W.contents out.new) (pending_text options.now tables.now)) }
+    ensures ok { OnOk result
+        (Wrote (W.contents out.old) (W.contents out.new) (pending_text options.now tables.now)) }
+    ensures err { OnErr result (WrotePrefix (W.contents out.old) (W.contents out.new)
+        (pending_text options.now tables.now)) }
 {
     if has_echoes(tables) {
         write_filled(out, options, PENDING)
@@ -442,8 +514,10 @@ fn write_pending<W: Write>(out: &mut W, options: &Options, tables: &Tables) -> R
 }
 
 fn write_names<W: Write>(out: &mut W, options: &Options, tables: &Tables) -> Result<(), io::Error>
-    ensures ok { OnOk result (Wrote (W.contents out.old) (W.contents out.new) (array_text options.now NAMES.now (of_kinds tables.now name_entry))) }
-    ensures err { OnErr result (WrotePrefix (W.contents out.old) (W.contents out.new) (array_text options.now NAMES.now (of_kinds tables.now name_entry))) }
+    ensures ok { OnOk result (Wrote (W.contents out.old) (W.contents out.new)
+        (array_text options.now NAMES.now (of_kinds tables.now name_entry))) }
+    ensures err { OnErr result (WrotePrefix (W.contents out.old) (W.contents out.new)
+        (array_text options.now NAMES.now (of_kinds tables.now name_entry))) }
 {
     write_filled(out, options, NAMES)?;
     write_name_entries(out, tables)?;
@@ -455,8 +529,10 @@ fn write_included_kinds<W: Write>(
     options: &Options,
     tables: &Tables,
 ) -> Result<(), io::Error>
-    ensures ok { OnOk result (Wrote (W.contents out.old) (W.contents out.new) (array_text options.now KINDS.now (of_kinds tables.now kind_entry))) }
-    ensures err { OnErr result (WrotePrefix (W.contents out.old) (W.contents out.new) (array_text options.now KINDS.now (of_kinds tables.now kind_entry))) }
+    ensures ok { OnOk result (Wrote (W.contents out.old) (W.contents out.new)
+        (array_text options.now KINDS.now (of_kinds tables.now kind_entry))) }
+    ensures err { OnErr result (WrotePrefix (W.contents out.old) (W.contents out.new)
+        (array_text options.now KINDS.now (of_kinds tables.now kind_entry))) }
 {
     write_filled(out, options, KINDS)?;
     write_kind_entries(out, tables)?;
@@ -468,8 +544,10 @@ fn write_kinds_array<W: Write>(
     options: &Options,
     tables: &Tables,
 ) -> Result<(), io::Error>
-    ensures ok { OnOk result (Wrote (W.contents out.old) (W.contents out.new) (kinds_array options.now tables.now)) }
-    ensures err { OnErr result (WrotePrefix (W.contents out.old) (W.contents out.new) (kinds_array options.now tables.now)) }
+    ensures ok { OnOk result
+        (Wrote (W.contents out.old) (W.contents out.new) (kinds_array options.now tables.now)) }
+    ensures err { OnErr result (WrotePrefix (W.contents out.old) (W.contents out.new)
+        (kinds_array options.now tables.now)) }
 {
     if options.has_include() {
         write_included_kinds(out, options, tables)
@@ -486,8 +564,10 @@ pub(crate) fn write_actions<W: Write>(
     tables: &Tables,
 ) -> Result<(), io::Error>
     requires { first ≤ max_first_kind }
-    ensures ok { OnOk result (Wrote (W.contents out.old) (W.contents out.new) (actions_from options.now first tables.now)) }
-    ensures err { OnErr result (WrotePrefix (W.contents out.old) (W.contents out.new) (actions_from options.now first tables.now)) }
+    ensures ok { OnOk result (Wrote (W.contents out.old) (W.contents out.new)
+        (actions_from options.now first tables.now)) }
+    ensures err { OnErr result (WrotePrefix (W.contents out.old) (W.contents out.new)
+        (actions_from options.now first tables.now)) }
 {
     write_steps_arrays(out, options, first, tables)?;
     write_steps(out, options, tables)?;

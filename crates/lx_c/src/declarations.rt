@@ -30,8 +30,10 @@ fn to_capital(letter: u8) -> u8
 }
 
 fn write_include_of<W: Write>(out: &mut W, include: Option<&[u8]>) -> Result<(), io::Error>
-    ensures ok { OnOk result (Wrote (W.contents out.old) (W.contents out.new) (include_text (option_map (λ file. file.now) include.entry))) }
-    ensures err { OnErr result (WrotePrefix (W.contents out.old) (W.contents out.new) (include_text (option_map (λ file. file.now) include.entry))) }
+    ensures ok { OnOk result (Wrote (W.contents out.old) (W.contents out.new)
+        (include_text (option_map (λ file. file.now) include.entry))) }
+    ensures err { OnErr result (WrotePrefix (W.contents out.old) (W.contents out.new)
+        (include_text (option_map (λ file. file.now) include.entry))) }
 {
     match include {
         None => Ok(()),
@@ -40,22 +42,27 @@ fn write_include_of<W: Write>(out: &mut W, include: Option<&[u8]>) -> Result<(),
 }
 
 fn write_include<W: Write>(out: &mut W, options: &Options) -> Result<(), io::Error>
-    ensures ok { OnOk result (Wrote (W.contents out.old) (W.contents out.new) (include_text options.now.include)) }
-    ensures err { OnErr result (WrotePrefix (W.contents out.old) (W.contents out.new) (include_text options.now.include)) }
+    ensures ok { OnOk result
+        (Wrote (W.contents out.old) (W.contents out.new) (include_text options.now.include)) }
+    ensures err { OnErr result
+        (WrotePrefix (W.contents out.old) (W.contents out.new) (include_text options.now.include)) }
 {
     write_include_of(out, options.include())
 }
 
 fn write_capital<W: Write>(out: &mut W, letter: u8) -> Result<(), io::Error>
-    ensures ok { OnOk result (Wrote (W.contents out.old) (W.contents out.new) (capital letter ∷ [])) }
-    ensures err { OnErr result (WrotePrefix (W.contents out.old) (W.contents out.new) (capital letter ∷ [])) }
+    ensures ok { OnOk result
+        (Wrote (W.contents out.old) (W.contents out.new) (capital letter ∷ [])) }
+    ensures err { OnErr result
+        (WrotePrefix (W.contents out.old) (W.contents out.new) (capital letter ∷ [])) }
 {
     write_bytes(out, &[to_capital(letter)])
 }
 
 fn write_capitals<W: Write>(out: &mut W, text: &[u8]) -> Result<(), io::Error>
     ensures ok { OnOk result (Wrote (W.contents out.old) (W.contents out.new) (capitals text.now)) }
-    ensures err { OnErr result (WrotePrefix (W.contents out.old) (W.contents out.new) (capitals text.now)) }
+    ensures err { OnErr result
+        (WrotePrefix (W.contents out.old) (W.contents out.new) (capitals text.now)) }
 {
     for letter in text {
         write_capital(out, *letter)?;
@@ -64,8 +71,10 @@ fn write_capitals<W: Write>(out: &mut W, text: &[u8]) -> Result<(), io::Error>
 }
 
 fn write_behind_prefix<W: Write>(out: &mut W, prefix: &[u8], kind: &[u8]) -> Result<(), io::Error>
-    ensures ok { OnOk result (Wrote (W.contents out.old) (W.contents out.new) (capitals prefix.now ++ codes "_" ++ kind.now)) }
-    ensures err { OnErr result (WrotePrefix (W.contents out.old) (W.contents out.new) (capitals prefix.now ++ codes "_" ++ kind.now)) }
+    ensures ok { OnOk result (Wrote (W.contents out.old) (W.contents out.new)
+        (capitals prefix.now ++ codes "_" ++ kind.now)) }
+    ensures err { OnErr result (WrotePrefix (W.contents out.old) (W.contents out.new)
+        (capitals prefix.now ++ codes "_" ++ kind.now)) }
 {
     write_capitals(out, prefix)?;
     write_bytes(out, b"_")?;
@@ -78,8 +87,10 @@ pub(crate) fn write_name<W: Write>(
     options: &Options,
     kind: &[u8],
 ) -> Result<(), io::Error>
-    ensures ok { OnOk result (Wrote (W.contents out.old) (W.contents out.new) (name_in_c options.now kind.now)) }
-    ensures err { OnErr result (WrotePrefix (W.contents out.old) (W.contents out.new) (name_in_c options.now kind.now)) }
+    ensures ok { OnOk result
+        (Wrote (W.contents out.old) (W.contents out.new) (name_in_c options.now kind.now)) }
+    ensures err { OnErr result
+        (WrotePrefix (W.contents out.old) (W.contents out.new) (name_in_c options.now kind.now)) }
 {
     if options.has_include() {
         write_bytes(out, kind)
@@ -90,8 +101,10 @@ pub(crate) fn write_name<W: Write>(
 
 fn write_kind_number<W: Write>(out: &mut W, first: u64, place: u32) -> Result<(), io::Error>
     requires { first ≤ max_first_kind }
-    ensures ok { OnOk result (Wrote (W.contents out.old) (W.contents out.new) (codes " = " ++ number (first + place))) }
-    ensures err { OnErr result (WrotePrefix (W.contents out.old) (W.contents out.new) (codes " = " ++ number (first + place))) }
+    ensures ok { OnOk result
+        (Wrote (W.contents out.old) (W.contents out.new) (codes " = " ++ number (first + place))) }
+    ensures err { OnErr result (WrotePrefix (W.contents out.old) (W.contents out.new)
+        (codes " = " ++ number (first + place))) }
 {
     write_numbered(out, b" = ", first + u64::from(place))
 }
@@ -104,8 +117,10 @@ fn write_kind_line<W: Write>(
     place: u32,
 ) -> Result<(), io::Error>
     requires { first ≤ max_first_kind }
-    ensures ok { OnOk result (Wrote (W.contents out.old) (W.contents out.new) (kind_line options.now first kind.now place)) }
-    ensures err { OnErr result (WrotePrefix (W.contents out.old) (W.contents out.new) (kind_line options.now first kind.now place)) }
+    ensures ok { OnOk result (Wrote (W.contents out.old) (W.contents out.new)
+        (kind_line options.now first kind.now place)) }
+    ensures err { OnErr result (WrotePrefix (W.contents out.old) (W.contents out.new)
+        (kind_line options.now first kind.now place)) }
 {
     write_bytes(out, b",\n    ")?;
     write_name(out, options, kind)?;
@@ -119,8 +134,12 @@ fn write_kind_list<W: Write>(
     tables: &Tables,
 ) -> Result<(), io::Error>
     requires { first ≤ max_first_kind }
-    ensures ok { OnOk result (Wrote (W.contents out.old) (W.contents out.new) (flat_map (λ k. kind_line options.now first (kind_at tables.now k) k) (range_with_len 0 (length tables.now.kinds)))) }
-    ensures err { OnErr result (WrotePrefix (W.contents out.old) (W.contents out.new) (flat_map (λ k. kind_line options.now first (kind_at tables.now k) k) (range_with_len 0 (length tables.now.kinds)))) }
+    ensures ok { OnOk result (Wrote (W.contents out.old) (W.contents out.new) (flat_map
+        (λ k. kind_line options.now first (kind_at tables.now k) k)
+        (range_with_len 0 (length tables.now.kinds)))) }
+    ensures err { OnErr result (WrotePrefix (W.contents out.old) (W.contents out.new) (flat_map
+        (λ k. kind_line options.now first (kind_at tables.now k) k)
+        (range_with_len 0 (length tables.now.kinds)))) }
 {
     for place in 0..tables.kinds() {
         write_kind_line(out, options, first, tables.kind(place), place)?;
@@ -135,8 +154,10 @@ fn write_kind_lines<W: Write>(
     tables: &Tables,
 ) -> Result<(), io::Error>
     requires { first ≤ max_first_kind }
-    ensures ok { OnOk result (Wrote (W.contents out.old) (W.contents out.new) (kind_lines options.now first tables.now)) }
-    ensures err { OnErr result (WrotePrefix (W.contents out.old) (W.contents out.new) (kind_lines options.now first tables.now)) }
+    ensures ok { OnOk result (Wrote (W.contents out.old) (W.contents out.new)
+        (kind_lines options.now first tables.now)) }
+    ensures err { OnErr result (WrotePrefix (W.contents out.old) (W.contents out.new)
+        (kind_lines options.now first tables.now)) }
 {
     if options.has_include() {
         Ok(())
@@ -146,16 +167,20 @@ fn write_kind_lines<W: Write>(
 }
 
 fn write_first_number<W: Write>(out: &mut W, options: &Options, first: u64) -> Result<(), io::Error>
-    ensures ok { OnOk result (Wrote (W.contents out.old) (W.contents out.new) (filled options.now.prefix FIRST_KIND.now ++ number_then first (codes "\n"))) }
-    ensures err { OnErr result (WrotePrefix (W.contents out.old) (W.contents out.new) (filled options.now.prefix FIRST_KIND.now ++ number_then first (codes "\n"))) }
+    ensures ok { OnOk result (Wrote (W.contents out.old) (W.contents out.new)
+        (filled options.now.prefix FIRST_KIND.now ++ number_then first (codes "\n"))) }
+    ensures err { OnErr result (WrotePrefix (W.contents out.old) (W.contents out.new)
+        (filled options.now.prefix FIRST_KIND.now ++ number_then first (codes "\n"))) }
 {
     write_filled(out, options, FIRST_KIND)?;
     write_number_then(out, first, b"\n")
 }
 
 fn write_first_kind<W: Write>(out: &mut W, options: &Options, first: u64) -> Result<(), io::Error>
-    ensures ok { OnOk result (Wrote (W.contents out.old) (W.contents out.new) (first_kind_text options.now first)) }
-    ensures err { OnErr result (WrotePrefix (W.contents out.old) (W.contents out.new) (first_kind_text options.now first)) }
+    ensures ok { OnOk result
+        (Wrote (W.contents out.old) (W.contents out.new) (first_kind_text options.now first)) }
+    ensures err { OnErr result (WrotePrefix (W.contents out.old) (W.contents out.new)
+        (first_kind_text options.now first)) }
 {
     if options.has_include() {
         Ok(())
@@ -171,8 +196,10 @@ fn write_kinds<W: Write>(
     tables: &Tables,
 ) -> Result<(), io::Error>
     requires { first ≤ max_first_kind }
-    ensures ok { OnOk result (Wrote (W.contents out.old) (W.contents out.new) (kinds_text options.now first tables.now)) }
-    ensures err { OnErr result (WrotePrefix (W.contents out.old) (W.contents out.new) (kinds_text options.now first tables.now)) }
+    ensures ok { OnOk result (Wrote (W.contents out.old) (W.contents out.new)
+        (kinds_text options.now first tables.now)) }
+    ensures err { OnErr result (WrotePrefix (W.contents out.old) (W.contents out.new)
+        (kinds_text options.now first tables.now)) }
 {
     write_filled(out, options, SPECIAL_KINDS)?;
     write_kind_lines(out, options, first, tables)?;
@@ -181,8 +208,10 @@ fn write_kinds<W: Write>(
 }
 
 fn write_condition_count<W: Write>(out: &mut W, tables: &Tables) -> Result<(), io::Error>
-    ensures ok { OnOk result (Wrote (W.contents out.old) (W.contents out.new) (number_then (length tables.now.machine.starts) (codes "\n"))) }
-    ensures err { OnErr result (WrotePrefix (W.contents out.old) (W.contents out.new) (number_then (length tables.now.machine.starts) (codes "\n"))) }
+    ensures ok { OnOk result (Wrote (W.contents out.old) (W.contents out.new)
+        (number_then (length tables.now.machine.starts) (codes "\n"))) }
+    ensures err { OnErr result (WrotePrefix (W.contents out.old) (W.contents out.new)
+        (number_then (length tables.now.machine.starts) (codes "\n"))) }
 {
     write_number_then(out, u64::from(tables.conditions()), b"\n")
 }
@@ -192,8 +221,10 @@ fn write_conditions<W: Write>(
     options: &Options,
     tables: &Tables,
 ) -> Result<(), io::Error>
-    ensures ok { OnOk result (Wrote (W.contents out.old) (W.contents out.new) (conditions_text options.now tables.now)) }
-    ensures err { OnErr result (WrotePrefix (W.contents out.old) (W.contents out.new) (conditions_text options.now tables.now)) }
+    ensures ok { OnOk result
+        (Wrote (W.contents out.old) (W.contents out.new) (conditions_text options.now tables.now)) }
+    ensures err { OnErr result (WrotePrefix (W.contents out.old) (W.contents out.new)
+        (conditions_text options.now tables.now)) }
 {
     write_filled(out, options, CONDITIONS)?;
     write_condition_count(out, tables)
@@ -205,8 +236,10 @@ fn write_condition_line<W: Write>(
     condition: usize,
 ) -> Result<(), io::Error>
     requires { condition < length options.now.conditions }
-    ensures ok { OnOk result (Wrote (W.contents out.old) (W.contents out.new) (condition_line options.now condition)) }
-    ensures err { OnErr result (WrotePrefix (W.contents out.old) (W.contents out.new) (condition_line options.now condition)) }
+    ensures ok { OnOk result
+        (Wrote (W.contents out.old) (W.contents out.new) (condition_line options.now condition)) }
+    ensures err { OnErr result (WrotePrefix (W.contents out.old) (W.contents out.new)
+        (condition_line options.now condition)) }
 {
     let mut digits = Buffer::new();
     write_parts(
@@ -224,8 +257,10 @@ fn write_condition_line<W: Write>(
 }
 
 fn write_condition_lines<W: Write>(out: &mut W, options: &Options) -> Result<(), io::Error>
-    ensures ok { OnOk result (Wrote (W.contents out.old) (W.contents out.new) (flat_map (condition_line options.now) (range_with_len 0 (length options.now.conditions)))) }
-    ensures err { OnErr result (WrotePrefix (W.contents out.old) (W.contents out.new) (flat_map (condition_line options.now) (range_with_len 0 (length options.now.conditions)))) }
+    ensures ok { OnOk result (Wrote (W.contents out.old) (W.contents out.new) (flat_map
+        (condition_line options.now) (range_with_len 0 (length options.now.conditions)))) }
+    ensures err { OnErr result (WrotePrefix (W.contents out.old) (W.contents out.new) (flat_map
+        (condition_line options.now) (range_with_len 0 (length options.now.conditions)))) }
 {
     for condition in 0..options.conditions() {
         write_condition_line(out, options, condition)?;
@@ -241,8 +276,10 @@ pub(crate) fn write_header<W: Write>(
     tables: &Tables,
 ) -> Result<(), io::Error>
     requires { first ≤ max_first_kind }
-    ensures ok { OnOk result (Wrote (W.contents out.old) (W.contents out.new) (header_from options.now first tables.now)) }
-    ensures err { OnErr result (WrotePrefix (W.contents out.old) (W.contents out.new) (header_from options.now first tables.now)) }
+    ensures ok { OnOk result (Wrote (W.contents out.old) (W.contents out.new)
+        (header_from options.now first tables.now)) }
+    ensures err { OnErr result (WrotePrefix (W.contents out.old) (W.contents out.new)
+        (header_from options.now first tables.now)) }
 {
     write_filled(out, options, GUARD)?;
     write_include(out, options)?;

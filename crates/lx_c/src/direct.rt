@@ -144,16 +144,22 @@ fn write_mark<W: Write>(
 ) -> Result<(), io::Error>
     requires group { group ≤ direct.max_group }
     requires byte { byte < 256 }
-    ensures ok { OnOk result (Wrote (W.contents out.old) (W.contents out.new) (entry_text (direct.mark_byte tables.now.machine group byte))) }
-    ensures err { OnErr result (WrotePrefix (W.contents out.old) (W.contents out.new) (entry_text (direct.mark_byte tables.now.machine group byte))) }
+    ensures ok { OnOk result (Wrote (W.contents out.old) (W.contents out.new)
+        (entry_text (direct.mark_byte tables.now.machine group byte))) }
+    ensures err { OnErr result (WrotePrefix (W.contents out.old) (W.contents out.new)
+        (entry_text (direct.mark_byte tables.now.machine group byte))) }
 {
     write_number_then(out, mark_byte(tables, group, byte as u8), b",")
 }
 
 fn write_marks_of<W: Write>(out: &mut W, tables: &Tables, group: u32) -> Result<(), io::Error>
     requires { group ≤ direct.max_group }
-    ensures ok { OnOk result (Wrote (W.contents out.old) (W.contents out.new) (flat_map (λ b. entry_text (mark_byte tables.now.machine group b)) (range_with_len 0 (256)))) }
-    ensures err { OnErr result (WrotePrefix (W.contents out.old) (W.contents out.new) (flat_map (λ b. entry_text (mark_byte tables.now.machine group b)) (range_with_len 0 (256)))) }
+    ensures ok { OnOk result (Wrote (W.contents out.old) (W.contents out.new) (flat_map
+        (λ b. entry_text (mark_byte tables.now.machine group b))
+        (range_with_len 0 (256)))) }
+    ensures err { OnErr result (WrotePrefix (W.contents out.old) (W.contents out.new) (flat_map
+        (λ b. entry_text (mark_byte tables.now.machine group b))
+        (range_with_len 0 (256)))) }
 {
     for byte in 0..256 {
         write_mark(out, tables, group, byte)?;
@@ -163,16 +169,22 @@ fn write_marks_of<W: Write>(out: &mut W, tables: &Tables, group: u32) -> Result<
 
 fn write_mark_line<W: Write>(out: &mut W, tables: &Tables, group: u32) -> Result<(), io::Error>
     requires { group ≤ direct.max_group }
-    ensures ok { OnOk result (Wrote (W.contents out.old) (W.contents out.new) (mark_line tables.now.machine group)) }
-    ensures err { OnErr result (WrotePrefix (W.contents out.old) (W.contents out.new) (mark_line tables.now.machine group)) }
+    ensures ok { OnOk result
+        (Wrote (W.contents out.old) (W.contents out.new) (mark_line tables.now.machine group)) }
+    ensures err { OnErr result (WrotePrefix (W.contents out.old) (W.contents out.new)
+        (mark_line tables.now.machine group)) }
 {
     write_marks_of(out, tables, group)?;
     write_bytes(out, b"\n")
 }
 
 fn write_mark_lines<W: Write>(out: &mut W, tables: &Tables) -> Result<(), io::Error>
-    ensures ok { OnOk result (Wrote (W.contents out.old) (W.contents out.new) (flat_map (mark_line tables.now.machine) (range_with_len 0 (state_count tables.now.machine / 4 + 1)))) }
-    ensures err { OnErr result (WrotePrefix (W.contents out.old) (W.contents out.new) (flat_map (mark_line tables.now.machine) (range_with_len 0 (state_count tables.now.machine / 4 + 1)))) }
+    ensures ok { OnOk result (Wrote (W.contents out.old) (W.contents out.new) (flat_map
+        (mark_line tables.now.machine)
+        (range_with_len 0 (state_count tables.now.machine / 4 + 1)))) }
+    ensures err { OnErr result (WrotePrefix (W.contents out.old) (W.contents out.new) (flat_map
+        (mark_line tables.now.machine)
+        (range_with_len 0 (state_count tables.now.machine / 4 + 1)))) }
 {
     for group in 0..tables.states() / 4 + 1 {
         write_mark_line(out, tables, group)?;
@@ -181,8 +193,10 @@ fn write_mark_lines<W: Write>(out: &mut W, tables: &Tables) -> Result<(), io::Er
 }
 
 fn write_marks<W: Write>(out: &mut W, options: &Options, tables: &Tables) -> Result<(), io::Error>
-    ensures ok { OnOk result (Wrote (W.contents out.old) (W.contents out.new) (marks_text options.now tables.now)) }
-    ensures err { OnErr result (WrotePrefix (W.contents out.old) (W.contents out.new) (marks_text options.now tables.now)) }
+    ensures ok { OnOk result
+        (Wrote (W.contents out.old) (W.contents out.new) (marks_text options.now tables.now)) }
+    ensures err { OnErr result (WrotePrefix (W.contents out.old) (W.contents out.new)
+        (marks_text options.now tables.now)) }
 {
     write_filled(out, options, MARKS)?;
     write_mark_lines(out, tables)?;
@@ -200,7 +214,8 @@ fn accepts(tables: &Tables, state: u32) -> bool
 /// Whether a condition starts in a state that accepts a rule.
 fn accepts_at_once(tables: &Tables, condition: u16) -> bool
     requires { condition < length tables.now.machine.starts }
-    ensures { result ≡ direct.accepts_at_once tables.now.machine (slice_index_or tables.now.machine.starts condition (0, 0)) }
+    ensures { result ≡ direct.accepts_at_once tables.now.machine
+        (slice_index_or tables.now.machine.starts condition (0, 0)) }
 {
     accepts(tables, tables.start(condition, false).0)
         || accepts(tables, tables.start(condition, true).0)
@@ -208,7 +223,8 @@ fn accepts_at_once(tables: &Tables, condition: u16) -> bool
 
 /// Whether some condition does, so that a match may be empty.
 fn may_be_empty(tables: &Tables) -> bool
-    ensures { result ≡ list_any (direct.accepts_at_once tables.now.machine) tables.now.machine.starts }
+    ensures { result
+        ≡ list_any (direct.accepts_at_once tables.now.machine) tables.now.machine.starts }
 {
     for condition in 0..tables.conditions() {
         if accepts_at_once(tables, condition) {
@@ -223,8 +239,10 @@ fn write_emptiness<W: Write>(
     options: &Options,
     tables: &Tables,
 ) -> Result<(), io::Error>
-    ensures ok { OnOk result (Wrote (W.contents out.old) (W.contents out.new) (emptiness_text options.now tables.now)) }
-    ensures err { OnErr result (WrotePrefix (W.contents out.old) (W.contents out.new) (emptiness_text options.now tables.now)) }
+    ensures ok { OnOk result
+        (Wrote (W.contents out.old) (W.contents out.new) (emptiness_text options.now tables.now)) }
+    ensures err { OnErr result (WrotePrefix (W.contents out.old) (W.contents out.new)
+        (emptiness_text options.now tables.now)) }
 {
     if may_be_empty(tables) {
         write_filled(out, options, MAY_BE_EMPTY)
@@ -239,8 +257,10 @@ pub(crate) fn write_marked<W: Write>(
     options: &Options,
     tables: &Tables,
 ) -> Result<(), io::Error>
-    ensures ok { OnOk result (Wrote (W.contents out.old) (W.contents out.new) (marked_text options.now tables.now)) }
-    ensures err { OnErr result (WrotePrefix (W.contents out.old) (W.contents out.new) (marked_text options.now tables.now)) }
+    ensures ok { OnOk result
+        (Wrote (W.contents out.old) (W.contents out.new) (marked_text options.now tables.now)) }
+    ensures err { OnErr result (WrotePrefix (W.contents out.old) (W.contents out.new)
+        (marked_text options.now tables.now)) }
 {
     write_line_begin(out, options, tables)?;
     write_emptiness(out, options, tables)?;
@@ -248,16 +268,20 @@ pub(crate) fn write_marked<W: Write>(
 }
 
 fn write_kept<W: Write>(out: &mut W, before: u32) -> Result<(), io::Error>
-    ensures ok { OnOk result (Wrote (W.contents out.old) (W.contents out.new) (codes "last = p; rule = " ++ number_then before (codes "; "))) }
-    ensures err { OnErr result (WrotePrefix (W.contents out.old) (W.contents out.new) (codes "last = p; rule = " ++ number_then before (codes "; "))) }
+    ensures ok { OnOk result (Wrote (W.contents out.old) (W.contents out.new)
+        (codes "last = p; rule = " ++ number_then before (codes "; "))) }
+    ensures err { OnErr result (WrotePrefix (W.contents out.old) (W.contents out.new)
+        (codes "last = p; rule = " ++ number_then before (codes "; "))) }
 {
     write_bytes(out, b"last = p; rule = ")?;
     write_number_then(out, u64::from(before), b"; ")
 }
 
 fn write_keep<W: Write>(out: &mut W, before: u32, behind: u32) -> Result<(), io::Error>
-    ensures ok { OnOk result (Wrote (W.contents out.old) (W.contents out.new) (keep_text before behind)) }
-    ensures err { OnErr result (WrotePrefix (W.contents out.old) (W.contents out.new) (keep_text before behind)) }
+    ensures ok { OnOk result
+        (Wrote (W.contents out.old) (W.contents out.new) (keep_text before behind)) }
+    ensures err { OnErr result
+        (WrotePrefix (W.contents out.old) (W.contents out.new) (keep_text before behind)) }
 {
     if before == 0 {
         return Ok(());
@@ -278,16 +302,20 @@ fn write_edge<W: Write>(
 ) -> Result<(), io::Error>
     requires state { state < state_count tables.now.machine }
     requires target { target < state_count tables.now.machine }
-    ensures ok { OnOk result (Wrote (W.contents out.old) (W.contents out.new) (edge_text options.now tables.now.machine state target)) }
-    ensures err { OnErr result (WrotePrefix (W.contents out.old) (W.contents out.new) (edge_text options.now tables.now.machine state target)) }
+    ensures ok { OnOk result (Wrote (W.contents out.old) (W.contents out.new)
+        (edge_text options.now tables.now.machine state target)) }
+    ensures err { OnErr result (WrotePrefix (W.contents out.old) (W.contents out.new)
+        (edge_text options.now tables.now.machine state target)) }
 {
     write_keep(out, rule_word(tables, state), rule_word(tables, target))?;
     write_numbered_text(out, options, GO, target, b")\n")
 }
 
 fn write_case_of<W: Write>(out: &mut W, byte: u16) -> Result<(), io::Error>
-    ensures ok { OnOk result (Wrote (W.contents out.old) (W.contents out.new) (codes "case " ++ number_then byte (codes ": "))) }
-    ensures err { OnErr result (WrotePrefix (W.contents out.old) (W.contents out.new) (codes "case " ++ number_then byte (codes ": "))) }
+    ensures ok { OnOk result (Wrote (W.contents out.old) (W.contents out.new)
+        (codes "case " ++ number_then byte (codes ": "))) }
+    ensures err { OnErr result (WrotePrefix (W.contents out.old) (W.contents out.new)
+        (codes "case " ++ number_then byte (codes ": "))) }
 {
     write_bytes(out, b"case ")?;
     write_number_then(out, u64::from(byte), b": ")
@@ -295,8 +323,10 @@ fn write_case_of<W: Write>(out: &mut W, byte: u16) -> Result<(), io::Error>
 
 fn write_case<W: Write>(out: &mut W, tables: &Tables, class: u8, byte: u16) -> Result<(), io::Error>
     requires { byte < 256 }
-    ensures ok { OnOk result (Wrote (W.contents out.old) (W.contents out.new) (case_text tables.now.machine class byte)) }
-    ensures err { OnErr result (WrotePrefix (W.contents out.old) (W.contents out.new) (case_text tables.now.machine class byte)) }
+    ensures ok { OnOk result (Wrote (W.contents out.old) (W.contents out.new)
+        (case_text tables.now.machine class byte)) }
+    ensures err { OnErr result (WrotePrefix (W.contents out.old) (W.contents out.new)
+        (case_text tables.now.machine class byte)) }
 {
     if class_of(tables, byte) == u16::from(class) {
         write_case_of(out, byte)
@@ -306,8 +336,10 @@ fn write_case<W: Write>(out: &mut W, tables: &Tables, class: u8, byte: u16) -> R
 }
 
 fn write_cases<W: Write>(out: &mut W, tables: &Tables, class: u8) -> Result<(), io::Error>
-    ensures ok { OnOk result (Wrote (W.contents out.old) (W.contents out.new) (flat_map (case_text tables.now.machine class) (range_with_len 0 (256)))) }
-    ensures err { OnErr result (WrotePrefix (W.contents out.old) (W.contents out.new) (flat_map (case_text tables.now.machine class) (range_with_len 0 (256)))) }
+    ensures ok { OnOk result (Wrote (W.contents out.old) (W.contents out.new)
+        (flat_map (case_text tables.now.machine class) (range_with_len 0 (256)))) }
+    ensures err { OnErr result (WrotePrefix (W.contents out.old) (W.contents out.new)
+        (flat_map (case_text tables.now.machine class) (range_with_len 0 (256)))) }
 {
     for byte in 0..256 {
         write_case(out, tables, class, byte)?;
@@ -321,8 +353,10 @@ fn write_newline<W: Write>(
     tables: &Tables,
     class: u8,
 ) -> Result<(), io::Error>
-    ensures ok { OnOk result (Wrote (W.contents out.old) (W.contents out.new) (newline_text options.now tables.now.machine class)) }
-    ensures err { OnErr result (WrotePrefix (W.contents out.old) (W.contents out.new) (newline_text options.now tables.now.machine class)) }
+    ensures ok { OnOk result (Wrote (W.contents out.old) (W.contents out.new)
+        (newline_text options.now tables.now.machine class)) }
+    ensures err { OnErr result (WrotePrefix (W.contents out.old) (W.contents out.new)
+        (newline_text options.now tables.now.machine class)) }
 {
     if class_of(tables, 10) == u16::from(class) {
         write_filled(out, options, NEWLINE)
@@ -341,8 +375,12 @@ fn write_step<W: Write>(
 ) -> Result<(), io::Error>
     requires state { state < state_count tables.now.machine }
     requires target { target < state_count tables.now.machine }
-    ensures ok { OnOk result (Wrote (W.contents out.old) (W.contents out.new) (case_texts tables.now.machine class ++ newline_text options.now tables.now.machine class ++ edge_text options.now tables.now.machine state target)) }
-    ensures err { OnErr result (WrotePrefix (W.contents out.old) (W.contents out.new) (case_texts tables.now.machine class ++ newline_text options.now tables.now.machine class ++ edge_text options.now tables.now.machine state target)) }
+    ensures ok { OnOk result (Wrote (W.contents out.old) (W.contents out.new) (case_texts
+        tables.now.machine class ++ newline_text options.now tables.now.machine class
+        ++ edge_text options.now tables.now.machine state target)) }
+    ensures err { OnErr result (WrotePrefix (W.contents out.old) (W.contents out.new) (case_texts
+        tables.now.machine class ++ newline_text options.now tables.now.machine class
+        ++ edge_text options.now tables.now.machine state target)) }
 {
     write_cases(out, tables, class)?;
     write_newline(out, options, tables, class)?;
@@ -360,8 +398,10 @@ fn write_step_if<W: Write>(
 ) -> Result<(), io::Error>
     requires state { state < state_count tables.now.machine }
     requires target { target < state_count tables.now.machine }
-    ensures ok { OnOk result (Wrote (W.contents out.old) (W.contents out.new) (class_code options.now tables.now.machine state main class (Some target))) }
-    ensures err { OnErr result (WrotePrefix (W.contents out.old) (W.contents out.new) (class_code options.now tables.now.machine state main class (Some target))) }
+    ensures ok { OnOk result (Wrote (W.contents out.old) (W.contents out.new)
+        (class_code options.now tables.now.machine state main class (Some target))) }
+    ensures err { OnErr result (WrotePrefix (W.contents out.old) (W.contents out.new)
+        (class_code options.now tables.now.machine state main class (Some target))) }
 {
     if is_it(Some(state), target) {
         return Ok(());
@@ -384,8 +424,10 @@ fn write_class_code<W: Write>(
 ) -> Result<(), io::Error>
     requires state { state < state_count tables.now.machine }
     requires target { IfSome target (λ t. t < state_count tables.now.machine) }
-    ensures ok { OnOk result (Wrote (W.contents out.old) (W.contents out.new) (class_code options.now tables.now.machine state main class target)) }
-    ensures err { OnErr result (WrotePrefix (W.contents out.old) (W.contents out.new) (class_code options.now tables.now.machine state main class target)) }
+    ensures ok { OnOk result (Wrote (W.contents out.old) (W.contents out.new)
+        (class_code options.now tables.now.machine state main class target)) }
+    ensures err { OnErr result (WrotePrefix (W.contents out.old) (W.contents out.new)
+        (class_code options.now tables.now.machine state main class target)) }
 {
     match target {
         None => Ok(()),
@@ -403,8 +445,12 @@ fn write_class<W: Write>(
 ) -> Result<(), io::Error>
     requires state { state < state_count tables.now.machine }
     requires class { class < tables.now.machine.width }
-    ensures ok { OnOk result (Wrote (W.contents out.old) (W.contents out.new) (class_code options.now tables.now.machine state main class (class_target tables.now.machine state class))) }
-    ensures err { OnErr result (WrotePrefix (W.contents out.old) (W.contents out.new) (class_code options.now tables.now.machine state main class (class_target tables.now.machine state class))) }
+    ensures ok { OnOk result (Wrote (W.contents out.old) (W.contents out.new) (class_code
+        options.now tables.now.machine state main class
+        (class_target tables.now.machine state class))) }
+    ensures err { OnErr result (WrotePrefix (W.contents out.old) (W.contents out.new) (class_code
+        options.now tables.now.machine state main class
+        (class_target tables.now.machine state class))) }
 {
     write_class_code(
         out,
@@ -425,8 +471,15 @@ fn write_classes<W: Write>(
     main: Option<u32>,
 ) -> Result<(), io::Error>
     requires { state < state_count tables.now.machine }
-    ensures ok { OnOk result (Wrote (W.contents out.old) (W.contents out.new) (flat_map (λ k. class_code options.now tables.now.machine state main k (class_target tables.now.machine state k)) (range_with_len 0 (tables.now.machine.width)))) }
-    ensures err { OnErr result (WrotePrefix (W.contents out.old) (W.contents out.new) (flat_map (λ k. class_code options.now tables.now.machine state main k (class_target tables.now.machine state k)) (range_with_len 0 (tables.now.machine.width)))) }
+    ensures ok { OnOk result (Wrote (W.contents out.old) (W.contents out.new) (flat_map (λ k.
+        class_code options.now tables.now.machine state main k
+        (class_target tables.now.machine state k))
+        (range_with_len 0 (tables.now.machine.width)))) }
+    ensures err { OnErr result (WrotePrefix (W.contents out.old) (W.contents out.new) (flat_map
+        (λ k.
+        class_code options.now tables.now.machine state main k
+        (class_target tables.now.machine state k))
+        (range_with_len 0 (tables.now.machine.width)))) }
 {
     for class in 0..tables.classes() {
         write_class(out, options, tables, state, main, class as u8)?;
@@ -443,8 +496,12 @@ fn write_other<W: Write>(
 ) -> Result<(), io::Error>
     requires state { state < state_count tables.now.machine }
     requires target { target < state_count tables.now.machine }
-    ensures ok { OnOk result (Wrote (W.contents out.old) (W.contents out.new) (numbered options.now OTHER.now state (codes ")\n") ++ edge_text options.now tables.now.machine state target ++ codes "}\n")) }
-    ensures err { OnErr result (WrotePrefix (W.contents out.old) (W.contents out.new) (numbered options.now OTHER.now state (codes ")\n") ++ edge_text options.now tables.now.machine state target ++ codes "}\n")) }
+    ensures ok { OnOk result (Wrote (W.contents out.old) (W.contents out.new) (numbered options.now
+        OTHER.now state (codes ")\n")
+        ++ edge_text options.now tables.now.machine state target ++ codes "}\n")) }
+    ensures err { OnErr result (WrotePrefix (W.contents out.old) (W.contents out.new) (numbered
+        options.now OTHER.now state (codes ")\n")
+        ++ edge_text options.now tables.now.machine state target ++ codes "}\n")) }
 {
     write_numbered_text(out, options, OTHER, state, b")\n")?;
     write_edge(out, options, tables, state, target)?;
@@ -460,8 +517,10 @@ fn write_main<W: Write>(
 ) -> Result<(), io::Error>
     requires state { state < state_count tables.now.machine }
     requires main { IfSome main (λ t. t < state_count tables.now.machine) }
-    ensures ok { OnOk result (Wrote (W.contents out.old) (W.contents out.new) (main_code options.now tables.now.machine state main)) }
-    ensures err { OnErr result (WrotePrefix (W.contents out.old) (W.contents out.new) (main_code options.now tables.now.machine state main)) }
+    ensures ok { OnOk result (Wrote (W.contents out.old) (W.contents out.new)
+        (main_code options.now tables.now.machine state main)) }
+    ensures err { OnErr result (WrotePrefix (W.contents out.old) (W.contents out.new)
+        (main_code options.now tables.now.machine state main)) }
 {
     match main {
         None => write_bytes(out, b"default: break;\n}\n"),
@@ -478,8 +537,12 @@ fn write_first_of<W: Write>(
 ) -> Result<(), io::Error>
     requires state { state < state_count tables.now.machine }
     requires target { target < state_count tables.now.machine }
-    ensures ok { OnOk result (Wrote (W.contents out.old) (W.contents out.new) (numbered options.now FIRST.now target (codes ", *p, 1)) { ") ++ edge_text options.now tables.now.machine state target ++ codes "}\n")) }
-    ensures err { OnErr result (WrotePrefix (W.contents out.old) (W.contents out.new) (numbered options.now FIRST.now target (codes ", *p, 1)) { ") ++ edge_text options.now tables.now.machine state target ++ codes "}\n")) }
+    ensures ok { OnOk result (Wrote (W.contents out.old) (W.contents out.new) (numbered options.now
+        FIRST.now target (codes ", *p, 1)) { ")
+        ++ edge_text options.now tables.now.machine state target ++ codes "}\n")) }
+    ensures err { OnErr result (WrotePrefix (W.contents out.old) (W.contents out.new) (numbered
+        options.now FIRST.now target (codes ", *p, 1)) { ")
+        ++ edge_text options.now tables.now.machine state target ++ codes "}\n")) }
 {
     write_numbered_text(out, options, FIRST, target, b", *p, 1)) { ")?;
     write_edge(out, options, tables, state, target)?;
@@ -495,8 +558,10 @@ fn write_first<W: Write>(
 ) -> Result<(), io::Error>
     requires state { state < state_count tables.now.machine }
     requires target { IfSome target (λ t. t < state_count tables.now.machine) }
-    ensures ok { OnOk result (Wrote (W.contents out.old) (W.contents out.new) (first_code options.now tables.now.machine state target)) }
-    ensures err { OnErr result (WrotePrefix (W.contents out.old) (W.contents out.new) (first_code options.now tables.now.machine state target)) }
+    ensures ok { OnOk result (Wrote (W.contents out.old) (W.contents out.new)
+        (first_code options.now tables.now.machine state target)) }
+    ensures err { OnErr result (WrotePrefix (W.contents out.old) (W.contents out.new)
+        (first_code options.now tables.now.machine state target)) }
 {
     match target {
         None => Ok(()),
@@ -511,8 +576,12 @@ fn write_first_step<W: Write>(
     state: u32,
 ) -> Result<(), io::Error>
     requires { state < state_count tables.now.machine }
-    ensures ok { OnOk result (Wrote (W.contents out.old) (W.contents out.new) (first_code options.now tables.now.machine state (direct.first_target tables.now.machine state))) }
-    ensures err { OnErr result (WrotePrefix (W.contents out.old) (W.contents out.new) (first_code options.now tables.now.machine state (direct.first_target tables.now.machine state))) }
+    ensures ok { OnOk result (Wrote (W.contents out.old) (W.contents out.new) (first_code
+        options.now tables.now.machine state
+        (direct.first_target tables.now.machine state))) }
+    ensures err { OnErr result (WrotePrefix (W.contents out.old) (W.contents out.new) (first_code
+        options.now tables.now.machine state
+        (direct.first_target tables.now.machine state))) }
 {
     write_first(out, options, tables, state, first_target(tables, state))
 }
@@ -526,8 +595,10 @@ fn write_steps<W: Write>(
 ) -> Result<(), io::Error>
     requires state { state < state_count tables.now.machine }
     requires main { IfSome main (λ t. t < state_count tables.now.machine) }
-    ensures ok { OnOk result (Wrote (W.contents out.old) (W.contents out.new) (steps_code options.now tables.now.machine state main)) }
-    ensures err { OnErr result (WrotePrefix (W.contents out.old) (W.contents out.new) (steps_code options.now tables.now.machine state main)) }
+    ensures ok { OnOk result (Wrote (W.contents out.old) (W.contents out.new)
+        (steps_code options.now tables.now.machine state main)) }
+    ensures err { OnErr result (WrotePrefix (W.contents out.old) (W.contents out.new)
+        (steps_code options.now tables.now.machine state main)) }
 {
     write_begin(out, options, tables, state)?;
     write_first_step(out, options, tables, state)?;
@@ -551,8 +622,10 @@ fn write_body<W: Write>(
     state: u32,
 ) -> Result<(), io::Error>
     requires { state < state_count tables.now.machine }
-    ensures ok { OnOk result (Wrote (W.contents out.old) (W.contents out.new) (body_code options.now tables.now.machine state)) }
-    ensures err { OnErr result (WrotePrefix (W.contents out.old) (W.contents out.new) (body_code options.now tables.now.machine state)) }
+    ensures ok { OnOk result (Wrote (W.contents out.old) (W.contents out.new)
+        (body_code options.now tables.now.machine state)) }
+    ensures err { OnErr result (WrotePrefix (W.contents out.old) (W.contents out.new)
+        (body_code options.now tables.now.machine state)) }
 {
     if has_no_step(tables, state) {
         Ok(())
@@ -568,8 +641,10 @@ fn write_state<W: Write>(
     state: u32,
 ) -> Result<(), io::Error>
     requires { state < state_count tables.now.machine }
-    ensures ok { OnOk result (Wrote (W.contents out.old) (W.contents out.new) (state_code options.now tables.now.machine state)) }
-    ensures err { OnErr result (WrotePrefix (W.contents out.old) (W.contents out.new) (state_code options.now tables.now.machine state)) }
+    ensures ok { OnOk result (Wrote (W.contents out.old) (W.contents out.new)
+        (state_code options.now tables.now.machine state)) }
+    ensures err { OnErr result (WrotePrefix (W.contents out.old) (W.contents out.new)
+        (state_code options.now tables.now.machine state)) }
 {
     write_numbered_text(out, options, STATE_LABEL, state, b":\n")?;
     write_body(out, options, tables, state)?;
@@ -578,8 +653,12 @@ fn write_state<W: Write>(
 }
 
 fn write_states<W: Write>(out: &mut W, options: &Options, tables: &Tables) -> Result<(), io::Error>
-    ensures ok { OnOk result (Wrote (W.contents out.old) (W.contents out.new) (flat_map (state_code options.now tables.now.machine) (range_with_len 0 (state_count tables.now.machine)))) }
-    ensures err { OnErr result (WrotePrefix (W.contents out.old) (W.contents out.new) (flat_map (state_code options.now tables.now.machine) (range_with_len 0 (state_count tables.now.machine)))) }
+    ensures ok { OnOk result (Wrote (W.contents out.old) (W.contents out.new) (flat_map
+        (state_code options.now tables.now.machine)
+        (range_with_len 0 (state_count tables.now.machine)))) }
+    ensures err { OnErr result (WrotePrefix (W.contents out.old) (W.contents out.new) (flat_map
+        (state_code options.now tables.now.machine)
+        (range_with_len 0 (state_count tables.now.machine)))) }
 {
     for state in 0..tables.states() {
         write_state(out, options, tables, state)?;
@@ -588,8 +667,10 @@ fn write_states<W: Write>(out: &mut W, options: &Options, tables: &Tables) -> Re
 }
 
 fn write_case_number<W: Write>(out: &mut W, n: u32) -> Result<(), io::Error>
-    ensures ok { OnOk result (Wrote (W.contents out.old) (W.contents out.new) (codes "case " ++ number n)) }
-    ensures err { OnErr result (WrotePrefix (W.contents out.old) (W.contents out.new) (codes "case " ++ number n)) }
+    ensures ok { OnOk result
+        (Wrote (W.contents out.old) (W.contents out.new) (codes "case " ++ number n)) }
+    ensures err { OnErr result
+        (WrotePrefix (W.contents out.old) (W.contents out.new) (codes "case " ++ number n)) }
 {
     write_numbered(out, b"case ", u64::from(n))
 }
@@ -602,8 +683,12 @@ fn write_start_of<W: Write>(
     at_line_begin: u32,
     elsewhere: u32,
 ) -> Result<(), io::Error>
-    ensures ok { OnOk result (Wrote (W.contents out.old) (W.contents out.new) (codes "case " ++ number condition ++ numbered options.now test.now at_line_begin (codes ";") ++ numbered options.now GOTO_STATE.now elsewhere (codes ";\n"))) }
-    ensures err { OnErr result (WrotePrefix (W.contents out.old) (W.contents out.new) (codes "case " ++ number condition ++ numbered options.now test.now at_line_begin (codes ";") ++ numbered options.now GOTO_STATE.now elsewhere (codes ";\n"))) }
+    ensures ok { OnOk result (Wrote (W.contents out.old) (W.contents out.new) (codes "case "
+        ++ number condition ++ numbered options.now test.now at_line_begin (codes ";")
+        ++ numbered options.now GOTO_STATE.now elsewhere (codes ";\n"))) }
+    ensures err { OnErr result (WrotePrefix (W.contents out.old) (W.contents out.new) (codes "case "
+        ++ number condition ++ numbered options.now test.now at_line_begin (codes ";")
+        ++ numbered options.now GOTO_STATE.now elsewhere (codes ";\n"))) }
 {
     write_case_number(out, condition)?;
     write_numbered_text(out, options, test, at_line_begin, b";")?;
@@ -618,8 +703,10 @@ fn write_start<W: Write>(
     condition: u16,
 ) -> Result<(), io::Error>
     requires { condition < length tables.now.machine.starts }
-    ensures ok { OnOk result (Wrote (W.contents out.old) (W.contents out.new) (start_code options.now test.now tables.now.machine condition)) }
-    ensures err { OnErr result (WrotePrefix (W.contents out.old) (W.contents out.new) (start_code options.now test.now tables.now.machine condition)) }
+    ensures ok { OnOk result (Wrote (W.contents out.old) (W.contents out.new)
+        (start_code options.now test.now tables.now.machine condition)) }
+    ensures err { OnErr result (WrotePrefix (W.contents out.old) (W.contents out.new)
+        (start_code options.now test.now tables.now.machine condition)) }
 {
     let at_line_begin = start_number(tables, condition, true);
     let elsewhere = start_number(tables, condition, false);
@@ -639,8 +726,12 @@ fn write_starts<W: Write>(
     test: &[u8],
     tables: &Tables,
 ) -> Result<(), io::Error>
-    ensures ok { OnOk result (Wrote (W.contents out.old) (W.contents out.new) (flat_map (start_code options.now test.now tables.now.machine) (range_with_len 0 (length tables.now.machine.starts)))) }
-    ensures err { OnErr result (WrotePrefix (W.contents out.old) (W.contents out.new) (flat_map (start_code options.now test.now tables.now.machine) (range_with_len 0 (length tables.now.machine.starts)))) }
+    ensures ok { OnOk result (Wrote (W.contents out.old) (W.contents out.new) (flat_map
+        (start_code options.now test.now tables.now.machine)
+        (range_with_len 0 (length tables.now.machine.starts)))) }
+    ensures err { OnErr result (WrotePrefix (W.contents out.old) (W.contents out.new) (flat_map
+        (start_code options.now test.now tables.now.machine)
+        (range_with_len 0 (length tables.now.machine.starts)))) }
 {
     for condition in 0..tables.conditions() {
         write_start(out, options, test, tables, condition)?;
@@ -649,16 +740,20 @@ fn write_starts<W: Write>(
 }
 
 fn write_rule_case_of<W: Write>(out: &mut W, options: &Options, word: u32) -> Result<(), io::Error>
-    ensures ok { OnOk result (Wrote (W.contents out.old) (W.contents out.new) (codes "case " ++ number word ++ numbered options.now GOTO_RULE_OF.now word (codes ";\n"))) }
-    ensures err { OnErr result (WrotePrefix (W.contents out.old) (W.contents out.new) (codes "case " ++ number word ++ numbered options.now GOTO_RULE_OF.now word (codes ";\n"))) }
+    ensures ok { OnOk result (Wrote (W.contents out.old) (W.contents out.new) (codes "case "
+        ++ number word ++ numbered options.now GOTO_RULE_OF.now word (codes ";\n"))) }
+    ensures err { OnErr result (WrotePrefix (W.contents out.old) (W.contents out.new) (codes "case "
+        ++ number word ++ numbered options.now GOTO_RULE_OF.now word (codes ";\n"))) }
 {
     write_case_number(out, word)?;
     write_numbered_text(out, options, GOTO_RULE_OF, word, b";\n")
 }
 
 fn write_rule_case<W: Write>(out: &mut W, options: &Options, rule: u16) -> Result<(), io::Error>
-    ensures ok { OnOk result (Wrote (W.contents out.old) (W.contents out.new) (rule_case options.now rule)) }
-    ensures err { OnErr result (WrotePrefix (W.contents out.old) (W.contents out.new) (rule_case options.now rule)) }
+    ensures ok { OnOk result
+        (Wrote (W.contents out.old) (W.contents out.new) (rule_case options.now rule)) }
+    ensures err { OnErr result
+        (WrotePrefix (W.contents out.old) (W.contents out.new) (rule_case options.now rule)) }
 {
     write_rule_case_of(out, options, rule_number(rule))
 }
@@ -668,8 +763,10 @@ fn write_rule_cases<W: Write>(
     options: &Options,
     tables: &Tables,
 ) -> Result<(), io::Error>
-    ensures ok { OnOk result (Wrote (W.contents out.old) (W.contents out.new) (flat_map (rule_case options.now) (range_with_len 0 (length tables.now.rules)))) }
-    ensures err { OnErr result (WrotePrefix (W.contents out.old) (W.contents out.new) (flat_map (rule_case options.now) (range_with_len 0 (length tables.now.rules)))) }
+    ensures ok { OnOk result (Wrote (W.contents out.old) (W.contents out.new)
+        (flat_map (rule_case options.now) (range_with_len 0 (length tables.now.rules)))) }
+    ensures err { OnErr result (WrotePrefix (W.contents out.old) (W.contents out.new)
+        (flat_map (rule_case options.now) (range_with_len 0 (length tables.now.rules)))) }
 {
     for rule in 0..tables.rules() {
         write_rule_case(out, options, rule)?;
@@ -678,16 +775,22 @@ fn write_rule_cases<W: Write>(
 }
 
 fn write_rule_code_of<W: Write>(out: &mut W, options: &Options, word: u32) -> Result<(), io::Error>
-    ensures ok { OnOk result (Wrote (W.contents out.old) (W.contents out.new) (numbered options.now RULE_LABEL.now word (codes ":\n") ++ numbered options.now MATCHED.now word (codes ")\n"))) }
-    ensures err { OnErr result (WrotePrefix (W.contents out.old) (W.contents out.new) (numbered options.now RULE_LABEL.now word (codes ":\n") ++ numbered options.now MATCHED.now word (codes ")\n"))) }
+    ensures ok { OnOk result (Wrote (W.contents out.old) (W.contents out.new) (numbered options.now
+        RULE_LABEL.now word (codes ":\n")
+        ++ numbered options.now MATCHED.now word (codes ")\n"))) }
+    ensures err { OnErr result (WrotePrefix (W.contents out.old) (W.contents out.new) (numbered
+        options.now RULE_LABEL.now word (codes ":\n")
+        ++ numbered options.now MATCHED.now word (codes ")\n"))) }
 {
     write_numbered_text(out, options, RULE_LABEL, word, b":\n")?;
     write_numbered_text(out, options, MATCHED, word, b")\n")
 }
 
 fn write_rule_code<W: Write>(out: &mut W, options: &Options, rule: u16) -> Result<(), io::Error>
-    ensures ok { OnOk result (Wrote (W.contents out.old) (W.contents out.new) (rule_code options.now rule)) }
-    ensures err { OnErr result (WrotePrefix (W.contents out.old) (W.contents out.new) (rule_code options.now rule)) }
+    ensures ok { OnOk result
+        (Wrote (W.contents out.old) (W.contents out.new) (rule_code options.now rule)) }
+    ensures err { OnErr result
+        (WrotePrefix (W.contents out.old) (W.contents out.new) (rule_code options.now rule)) }
 {
     write_rule_code_of(out, options, rule_number(rule))
 }
@@ -697,8 +800,10 @@ fn write_rule_codes<W: Write>(
     options: &Options,
     tables: &Tables,
 ) -> Result<(), io::Error>
-    ensures ok { OnOk result (Wrote (W.contents out.old) (W.contents out.new) (flat_map (rule_code options.now) (range_with_len 0 (length tables.now.rules)))) }
-    ensures err { OnErr result (WrotePrefix (W.contents out.old) (W.contents out.new) (flat_map (rule_code options.now) (range_with_len 0 (length tables.now.rules)))) }
+    ensures ok { OnOk result (Wrote (W.contents out.old) (W.contents out.new)
+        (flat_map (rule_code options.now) (range_with_len 0 (length tables.now.rules)))) }
+    ensures err { OnErr result (WrotePrefix (W.contents out.old) (W.contents out.new)
+        (flat_map (rule_code options.now) (range_with_len 0 (length tables.now.rules)))) }
 {
     for rule in 0..tables.rules() {
         write_rule_code(out, options, rule)?;
@@ -711,8 +816,10 @@ fn write_all_states<W: Write>(
     options: &Options,
     tables: &Tables,
 ) -> Result<(), io::Error>
-    ensures ok { OnOk result (Wrote (W.contents out.old) (W.contents out.new) (states_text options.now tables.now.machine)) }
-    ensures err { OnErr result (WrotePrefix (W.contents out.old) (W.contents out.new) (states_text options.now tables.now.machine)) }
+    ensures ok { OnOk result (Wrote (W.contents out.old) (W.contents out.new)
+        (states_text options.now tables.now.machine)) }
+    ensures err { OnErr result (WrotePrefix (W.contents out.old) (W.contents out.new)
+        (states_text options.now tables.now.machine)) }
 {
     write_filled(out, options, BEGIN_MATCH)?;
     write_starts(out, options, AT_LINE_BEGIN, tables)?;
@@ -725,8 +832,10 @@ fn write_all_rules<W: Write>(
     options: &Options,
     tables: &Tables,
 ) -> Result<(), io::Error>
-    ensures ok { OnOk result (Wrote (W.contents out.old) (W.contents out.new) (rules_text options.now tables.now)) }
-    ensures err { OnErr result (WrotePrefix (W.contents out.old) (W.contents out.new) (rules_text options.now tables.now)) }
+    ensures ok { OnOk result
+        (Wrote (W.contents out.old) (W.contents out.new) (rules_text options.now tables.now)) }
+    ensures err { OnErr result (WrotePrefix (W.contents out.old) (W.contents out.new)
+        (rules_text options.now tables.now)) }
 {
     write_filled(out, options, BACK)?;
     write_rule_cases(out, options, tables)?;
@@ -736,8 +845,10 @@ fn write_all_rules<W: Write>(
 }
 
 fn write_ends<W: Write>(out: &mut W, options: &Options, tables: &Tables) -> Result<(), io::Error>
-    ensures ok { OnOk result (Wrote (W.contents out.old) (W.contents out.new) (ends_text options.now tables.now.machine)) }
-    ensures err { OnErr result (WrotePrefix (W.contents out.old) (W.contents out.new) (ends_text options.now tables.now.machine)) }
+    ensures ok { OnOk result (Wrote (W.contents out.old) (W.contents out.new)
+        (ends_text options.now tables.now.machine)) }
+    ensures err { OnErr result (WrotePrefix (W.contents out.old) (W.contents out.new)
+        (ends_text options.now tables.now.machine)) }
 {
     write_starts(out, options, BEHIND_LINE_END, tables)?;
     write_filled(out, options, END_MATCH)
@@ -749,8 +860,10 @@ pub(crate) fn write_direct<W: Write>(
     options: &Options,
     tables: &Tables,
 ) -> Result<(), io::Error>
-    ensures ok { OnOk result (Wrote (W.contents out.old) (W.contents out.new) (direct_text options.now tables.now)) }
-    ensures err { OnErr result (WrotePrefix (W.contents out.old) (W.contents out.new) (direct_text options.now tables.now)) }
+    ensures ok { OnOk result
+        (Wrote (W.contents out.old) (W.contents out.new) (direct_text options.now tables.now)) }
+    ensures err { OnErr result (WrotePrefix (W.contents out.old) (W.contents out.new)
+        (direct_text options.now tables.now)) }
 {
     write_all_states(out, options, tables)?;
     write_all_rules(out, options, tables)?;

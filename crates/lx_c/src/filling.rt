@@ -9,8 +9,10 @@ use crate::writing::write_bytes;
 use std::io::{self, Write};
 
 fn write_filled_byte<W: Write>(out: &mut W, prefix: &[u8], byte: u8) -> Result<(), io::Error>
-    ensures ok { OnOk result (Wrote (W.contents out.old) (W.contents out.new) (filled_byte prefix.now byte)) }
-    ensures err { OnErr result (WrotePrefix (W.contents out.old) (W.contents out.new) (filled_byte prefix.now byte)) }
+    ensures ok { OnOk result
+        (Wrote (W.contents out.old) (W.contents out.new) (filled_byte prefix.now byte)) }
+    ensures err { OnErr result
+        (WrotePrefix (W.contents out.old) (W.contents out.new) (filled_byte prefix.now byte)) }
 {
     if byte == b'@' {
         write_bytes(out, prefix)
@@ -20,8 +22,10 @@ fn write_filled_byte<W: Write>(out: &mut W, prefix: &[u8], byte: u8) -> Result<(
 }
 
 fn write_all_filled<W: Write>(out: &mut W, prefix: &[u8], template: &[u8]) -> Result<(), io::Error>
-    ensures ok { OnOk result (Wrote (W.contents out.old) (W.contents out.new) (filled prefix.now template.now)) }
-    ensures err { OnErr result (WrotePrefix (W.contents out.old) (W.contents out.new) (filled prefix.now template.now)) }
+    ensures ok { OnOk result
+        (Wrote (W.contents out.old) (W.contents out.new) (filled prefix.now template.now)) }
+    ensures err { OnErr result
+        (WrotePrefix (W.contents out.old) (W.contents out.new) (filled prefix.now template.now)) }
 {
     for byte in template {
         write_filled_byte(out, prefix, *byte)?;
@@ -35,8 +39,10 @@ pub(crate) fn write_filled<W: Write>(
     options: &Options,
     template: &[u8],
 ) -> Result<(), io::Error>
-    ensures ok { OnOk result (Wrote (W.contents out.old) (W.contents out.new) (filled options.now.prefix template.now)) }
-    ensures err { OnErr result (WrotePrefix (W.contents out.old) (W.contents out.new) (filled options.now.prefix template.now)) }
+    ensures ok { OnOk result
+        (Wrote (W.contents out.old) (W.contents out.new) (filled options.now.prefix template.now)) }
+    ensures err { OnErr result (WrotePrefix (W.contents out.old) (W.contents out.new)
+        (filled options.now.prefix template.now)) }
 {
     write_all_filled(out, options.prefix(), template)
 }

@@ -53,8 +53,10 @@ fn is_own(options: &Options, kind: &[u8]) -> bool
 }
 
 fn write_spaced<W: Write>(out: &mut W, options: &Options, kind: &[u8]) -> Result<(), io::Error>
-    ensures ok { OnOk result (Wrote (W.contents out.old) (W.contents out.new) (kinds.spaced (kinds.name_in_c options.now kind.now))) }
-    ensures err { OnErr result (WrotePrefix (W.contents out.old) (W.contents out.new) (kinds.spaced (kinds.name_in_c options.now kind.now))) }
+    ensures ok { OnOk result (Wrote (W.contents out.old) (W.contents out.new)
+        (kinds.spaced (kinds.name_in_c options.now kind.now))) }
+    ensures err { OnErr result (WrotePrefix (W.contents out.old) (W.contents out.new)
+        (kinds.spaced (kinds.name_in_c options.now kind.now))) }
 {
     write_bytes(out, b" ")?;
     write_name(out, options, kind)?;
@@ -63,7 +65,8 @@ fn write_spaced<W: Write>(out: &mut W, options: &Options, kind: &[u8]) -> Result
 
 /// The name of a kind in C, with a blank on both sides.
 fn spaced_name(alloc: Global, options: &Options, kind: &[u8]) -> Result<Vec<u8>, AllocError>
-    ensures { IfOk result (λ spaced. spaced.items ≡ kinds.spaced (kinds.name_in_c options.now kind.now)) }
+    ensures { IfOk result
+        (λ spaced. spaced.items ≡ kinds.spaced (kinds.name_in_c options.now kind.now)) }
 {
     let mut spaced = Vec::new(alloc);
     match write_spaced(&mut spaced, options, kind) {
@@ -129,7 +132,8 @@ fn are_too_many(options: &Options, states: u32) -> bool
 /// one that the scanner declares for itself. Of several faults it gives the first one. Want of memory is a fault too.
 pub fn judge(alloc: Global, tables: &Tables, options: &Options) -> Result<(), KindFault>
     ensures ok { IfOk result (λ done. kinds.kind_fault options.now tables.now ≡ None) }
-    ensures err { IfErr result (λ fault. (fault ≡ faults.Memory) ⊎ (kinds.kind_fault options.now tables.now ≡ Some fault)) }
+    ensures err { IfErr result (λ fault.
+        (fault ≡ faults.Memory) ⊎ (kinds.kind_fault options.now tables.now ≡ Some fault)) }
 {
     let states = tables.states();
     if are_too_many(options, states) {

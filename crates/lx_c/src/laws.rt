@@ -19,7 +19,8 @@ pub fn arrays_are_one_to_one()
 
 /// A law: where no file declares the kinds, the numbers between the braces of the arrays of actions are what the steps of the rules say.
 pub fn arrays_have_the_actions()
-    ensures { (o : Options) (table : Table) → IsTable table → o.include ≡ None → HaveTheActions o table }
+    ensures { (o : Options) (table : Table) → IsTable table → o.include ≡ None
+        → HaveTheActions o table }
 {}
 
 /// A law: the numbers of kinds are above all bytes, and above all numbers that actions return.

@@ -130,7 +130,8 @@ fn first_of(tables: &Tables, state: u32) -> Option<u32>
 /// Whether matches in a condition begin in a state.
 fn starts_in(tables: &Tables, condition: u16, state: u32) -> bool
     requires { condition < length tables.now.machine.starts }
-    ensures { result ≡ direct.starts_in state (slice_index_or tables.now.machine.starts condition (0, 0)) }
+    ensures { result
+        ≡ direct.starts_in state (slice_index_or tables.now.machine.starts condition (0, 0)) }
 {
     tables.start(condition, false).0 == state || tables.start(condition, true).0 == state
 }
@@ -170,7 +171,8 @@ fn enters(tables: &Tables, state: u32, target: u32) -> bool
 
 /// Whether some state has a step to a state.
 fn is_entered(tables: &Tables, state: u32) -> bool
-    ensures { result ≡ direct.is_entered_by tables.now.machine state (state_count tables.now.machine) }
+    ensures { result
+        ≡ direct.is_entered_by tables.now.machine state (state_count tables.now.machine) }
 {
     let mut is_entered = false;
     for other in 0..tables.states() {
@@ -189,7 +191,8 @@ fn only_starts(tables: &Tables, state: u32) -> bool
 /// Writes where a range begins.
 fn write_low_bound<W: Write>(out: &mut W, byte: u16) -> Result<(), io::Error>
     ensures ok { OnOk result (Wrote (W.contents out.old) (W.contents out.new) (low_bound byte)) }
-    ensures err { OnErr result (WrotePrefix (W.contents out.old) (W.contents out.new) (low_bound byte)) }
+    ensures err { OnErr result
+        (WrotePrefix (W.contents out.old) (W.contents out.new) (low_bound byte)) }
 {
     if byte == 0 {
         write_bytes(out, b"(1")
@@ -207,8 +210,10 @@ fn write_low<W: Write>(
 ) -> Result<(), io::Error>
     requires state { state < state_count tables.now.machine }
     requires byte { byte < 256 }
-    ensures ok { OnOk result (Wrote (W.contents out.old) (W.contents out.new) (low_text tables.now.machine state staying byte)) }
-    ensures err { OnErr result (WrotePrefix (W.contents out.old) (W.contents out.new) (low_text tables.now.machine state staying byte)) }
+    ensures ok { OnOk result (Wrote (W.contents out.old) (W.contents out.new)
+        (low_text tables.now.machine state staying byte)) }
+    ensures err { OnErr result (WrotePrefix (W.contents out.old) (W.contents out.new)
+        (low_text tables.now.machine state staying byte)) }
 {
     if begins(tables, state, staying, byte) {
         write_low_bound(out, byte)
@@ -219,7 +224,8 @@ fn write_low<W: Write>(
 
 fn write_at_most<W: Write>(out: &mut W, byte: u16) -> Result<(), io::Error>
     ensures ok { OnOk result (Wrote (W.contents out.old) (W.contents out.new) (at_most byte)) }
-    ensures err { OnErr result (WrotePrefix (W.contents out.old) (W.contents out.new) (at_most byte)) }
+    ensures err { OnErr result
+        (WrotePrefix (W.contents out.old) (W.contents out.new) (at_most byte)) }
 {
     write_bytes(out, b" && c <= ")?;
     write_number_then(out, u64::from(byte), b") || ")
@@ -228,7 +234,8 @@ fn write_at_most<W: Write>(out: &mut W, byte: u16) -> Result<(), io::Error>
 /// Writes where a range ends.
 fn write_high_bound<W: Write>(out: &mut W, byte: u16) -> Result<(), io::Error>
     ensures ok { OnOk result (Wrote (W.contents out.old) (W.contents out.new) (high_bound byte)) }
-    ensures err { OnErr result (WrotePrefix (W.contents out.old) (W.contents out.new) (high_bound byte)) }
+    ensures err { OnErr result
+        (WrotePrefix (W.contents out.old) (W.contents out.new) (high_bound byte)) }
 {
     if byte == 255 {
         write_bytes(out, b") || ")
@@ -246,8 +253,10 @@ fn write_high<W: Write>(
 ) -> Result<(), io::Error>
     requires state { state < state_count tables.now.machine }
     requires byte { byte < 256 }
-    ensures ok { OnOk result (Wrote (W.contents out.old) (W.contents out.new) (high_text tables.now.machine state staying byte)) }
-    ensures err { OnErr result (WrotePrefix (W.contents out.old) (W.contents out.new) (high_text tables.now.machine state staying byte)) }
+    ensures ok { OnOk result (Wrote (W.contents out.old) (W.contents out.new)
+        (high_text tables.now.machine state staying byte)) }
+    ensures err { OnErr result (WrotePrefix (W.contents out.old) (W.contents out.new)
+        (high_text tables.now.machine state staying byte)) }
 {
     if ends(tables, state, staying, byte) {
         write_high_bound(out, byte)
@@ -265,8 +274,10 @@ fn write_range<W: Write>(
 ) -> Result<(), io::Error>
     requires state { state < state_count tables.now.machine }
     requires byte { byte < 256 }
-    ensures ok { OnOk result (Wrote (W.contents out.old) (W.contents out.new) (range_text tables.now.machine state staying byte)) }
-    ensures err { OnErr result (WrotePrefix (W.contents out.old) (W.contents out.new) (range_text tables.now.machine state staying byte)) }
+    ensures ok { OnOk result (Wrote (W.contents out.old) (W.contents out.new)
+        (range_text tables.now.machine state staying byte)) }
+    ensures err { OnErr result (WrotePrefix (W.contents out.old) (W.contents out.new)
+        (range_text tables.now.machine state staying byte)) }
 {
     write_low(out, tables, state, staying, byte)?;
     write_high(out, tables, state, staying, byte)
@@ -279,8 +290,10 @@ fn write_range_list<W: Write>(
     staying: bool,
 ) -> Result<(), io::Error>
     requires { state < state_count tables.now.machine }
-    ensures ok { OnOk result (Wrote (W.contents out.old) (W.contents out.new) (flat_map (range_text tables.now.machine state staying) (range_with_len 0 (256)))) }
-    ensures err { OnErr result (WrotePrefix (W.contents out.old) (W.contents out.new) (flat_map (range_text tables.now.machine state staying) (range_with_len 0 (256)))) }
+    ensures ok { OnOk result (Wrote (W.contents out.old) (W.contents out.new)
+        (flat_map (range_text tables.now.machine state staying) (range_with_len 0 (256)))) }
+    ensures err { OnErr result (WrotePrefix (W.contents out.old) (W.contents out.new)
+        (flat_map (range_text tables.now.machine state staying) (range_with_len 0 (256)))) }
 {
     for byte in 0..256 {
         write_range(out, tables, state, staying, byte)?;
@@ -295,8 +308,10 @@ fn write_ranges<W: Write>(
     staying: bool,
 ) -> Result<(), io::Error>
     requires { state < state_count tables.now.machine }
-    ensures ok { OnOk result (Wrote (W.contents out.old) (W.contents out.new) (ranges_text tables.now.machine state staying)) }
-    ensures err { OnErr result (WrotePrefix (W.contents out.old) (W.contents out.new) (ranges_text tables.now.machine state staying)) }
+    ensures ok { OnOk result (Wrote (W.contents out.old) (W.contents out.new)
+        (ranges_text tables.now.machine state staying)) }
+    ensures err { OnErr result (WrotePrefix (W.contents out.old) (W.contents out.new)
+        (ranges_text tables.now.machine state staying)) }
 {
     write_range_list(out, tables, state, staying)?;
     write_bytes(out, b"0")
@@ -309,8 +324,10 @@ fn write_own_ranges<W: Write>(
     state: u32,
 ) -> Result<(), io::Error>
     requires { state < state_count tables.now.machine }
-    ensures ok { OnOk result (Wrote (W.contents out.old) (W.contents out.new) (own_ranges_text options.now tables.now.machine state)) }
-    ensures err { OnErr result (WrotePrefix (W.contents out.old) (W.contents out.new) (own_ranges_text options.now tables.now.machine state)) }
+    ensures ok { OnOk result (Wrote (W.contents out.old) (W.contents out.new)
+        (own_ranges_text options.now tables.now.machine state)) }
+    ensures err { OnErr result (WrotePrefix (W.contents out.old) (W.contents out.new)
+        (own_ranges_text options.now tables.now.machine state)) }
 {
     write_numbered_text(out, options, RANGES, state, b", ")?;
     write_ranges(out, tables, state, true)
@@ -323,8 +340,10 @@ fn write_other_ranges<W: Write>(
     state: u32,
 ) -> Result<(), io::Error>
     requires { state < state_count tables.now.machine }
-    ensures ok { OnOk result (Wrote (W.contents out.old) (W.contents out.new) (other_ranges_text options.now tables.now.machine state)) }
-    ensures err { OnErr result (WrotePrefix (W.contents out.old) (W.contents out.new) (other_ranges_text options.now tables.now.machine state)) }
+    ensures ok { OnOk result (Wrote (W.contents out.old) (W.contents out.new)
+        (other_ranges_text options.now tables.now.machine state)) }
+    ensures err { OnErr result (WrotePrefix (W.contents out.old) (W.contents out.new)
+        (other_ranges_text options.now tables.now.machine state)) }
 {
     write_numbered_text(out, options, RANGES, state, b", !(")?;
     write_ranges(out, tables, state, false)?;
@@ -339,8 +358,10 @@ fn write_stays<W: Write>(
     state: u32,
 ) -> Result<(), io::Error>
     requires { state < state_count tables.now.machine }
-    ensures ok { OnOk result (Wrote (W.contents out.old) (W.contents out.new) (stays_text options.now tables.now.machine state)) }
-    ensures err { OnErr result (WrotePrefix (W.contents out.old) (W.contents out.new) (stays_text options.now tables.now.machine state)) }
+    ensures ok { OnOk result (Wrote (W.contents out.old) (W.contents out.new)
+        (stays_text options.now tables.now.machine state)) }
+    ensures err { OnErr result (WrotePrefix (W.contents out.old) (W.contents out.new)
+        (stays_text options.now tables.now.machine state)) }
 {
     if range_count(tables, state, true) < 3 {
         return write_own_ranges(out, options, tables, state);
@@ -359,8 +380,10 @@ fn write_loop<W: Write>(
     state: u32,
 ) -> Result<(), io::Error>
     requires { state < state_count tables.now.machine }
-    ensures ok { OnOk result (Wrote (W.contents out.old) (W.contents out.new) (loop_code options.now tables.now.machine state)) }
-    ensures err { OnErr result (WrotePrefix (W.contents out.old) (W.contents out.new) (loop_code options.now tables.now.machine state)) }
+    ensures ok { OnOk result (Wrote (W.contents out.old) (W.contents out.new)
+        (loop_code options.now tables.now.machine state)) }
+    ensures err { OnErr result (WrotePrefix (W.contents out.old) (W.contents out.new)
+        (loop_code options.now tables.now.machine state)) }
 {
     write_stays(out, options, tables, state)?;
     write_numbered_text(out, options, LOOP_RULE, rule_word(tables, state), b")\n")
@@ -373,8 +396,11 @@ fn write_at_end<W: Write>(
     state: u32,
 ) -> Result<(), io::Error>
     requires { state < state_count tables.now.machine }
-    ensures ok { OnOk result (Wrote (W.contents out.old) (W.contents out.new) (numbered options.now AT_END.now (rows.rule_word (accepted_by tables.now.machine state)) (codes ")\n"))) }
-    ensures err { OnErr result (WrotePrefix (W.contents out.old) (W.contents out.new) (numbered options.now AT_END.now (rows.rule_word (accepted_by tables.now.machine state)) (codes ")\n"))) }
+    ensures ok { OnOk result (Wrote (W.contents out.old) (W.contents out.new) (numbered options.now
+        AT_END.now (rows.rule_word (accepted_by tables.now.machine state)) (codes ")\n"))) }
+    ensures err { OnErr result (WrotePrefix (W.contents out.old) (W.contents out.new) (numbered
+        options.now AT_END.now (rows.rule_word (accepted_by tables.now.machine state))
+        (codes ")\n"))) }
 {
     write_numbered_text(out, options, AT_END, rule_word(tables, state), b")\n")
 }
@@ -387,8 +413,10 @@ fn write_end<W: Write>(
     state: u32,
 ) -> Result<(), io::Error>
     requires { state < state_count tables.now.machine }
-    ensures ok { OnOk result (Wrote (W.contents out.old) (W.contents out.new) (end_code options.now tables.now.machine state)) }
-    ensures err { OnErr result (WrotePrefix (W.contents out.old) (W.contents out.new) (end_code options.now tables.now.machine state)) }
+    ensures ok { OnOk result (Wrote (W.contents out.old) (W.contents out.new)
+        (end_code options.now tables.now.machine state)) }
+    ensures err { OnErr result (WrotePrefix (W.contents out.old) (W.contents out.new)
+        (end_code options.now tables.now.machine state)) }
 {
     if only_starts(tables, state) {
         Ok(())
@@ -413,8 +441,10 @@ pub(crate) fn write_begin<W: Write>(
     state: u32,
 ) -> Result<(), io::Error>
     requires { state < state_count tables.now.machine }
-    ensures ok { OnOk result (Wrote (W.contents out.old) (W.contents out.new) (begin_code options.now tables.now.machine state)) }
-    ensures err { OnErr result (WrotePrefix (W.contents out.old) (W.contents out.new) (begin_code options.now tables.now.machine state)) }
+    ensures ok { OnOk result (Wrote (W.contents out.old) (W.contents out.new)
+        (begin_code options.now tables.now.machine state)) }
+    ensures err { OnErr result (WrotePrefix (W.contents out.old) (W.contents out.new)
+        (begin_code options.now tables.now.machine state)) }
 {
     if has_no_loop(tables, state) {
         write_end(out, options, tables, state)

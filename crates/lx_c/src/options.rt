@@ -27,9 +27,13 @@ impl Model for Options {
 
     ghost Value = { Options };
 
-    ghost view = { λ o. record { prefix = o.prefix.items; conditions = names_view o.conditions.items; include = option_map (λ file. file.items) o.include; direct = o.direct } };
+    ghost view = { λ o.
+        record
+        { prefix = o.prefix.items; conditions = names_view o.conditions.items; include = option_map (λ file. file.items) o.include; direct = o.direct } };
 
-    ghost invariant = { λ o. AreOptions (record { prefix = o.prefix.items; conditions = names_view o.conditions.items; include = option_map (λ file. file.items) o.include; direct = o.direct }) };
+    ghost invariant = { λ o.
+        AreOptions (record
+        { prefix = o.prefix.items; conditions = names_view o.conditions.items; include = option_map (λ file. file.items) o.include; direct = o.direct }) };
 }
 
 fn is_small_letter(c: u8) -> bool
@@ -107,8 +111,12 @@ impl Options {
         conditions: Vec<Vec<u8>>,
         include: Option<Vec<u8>>,
     ) -> Result<Options, OptionFault>
-        ensures ok { IfOk result (λ o. o ≡ record { prefix = prefix.items; conditions = names_view conditions.items; include = option_map (λ file. file.items) include; direct = false }) }
-        ensures err { IfErr result (λ e. Some e ≡ specs.option_fault (record { prefix = prefix.items; conditions = names_view conditions.items; include = option_map (λ file. file.items) include; direct = false })) }
+        ensures ok { IfOk result (λ o.
+            o ≡ record
+            { prefix = prefix.items; conditions = names_view conditions.items; include = option_map (λ file. file.items) include; direct = false }) }
+        ensures err { IfErr result (λ e.
+            Some e ≡ specs.option_fault (record
+            { prefix = prefix.items; conditions = names_view conditions.items; include = option_map (λ file. file.items) include; direct = false })) }
     {
         if !is_prefix(&prefix) {
             return Err(OptionFault::Prefix);

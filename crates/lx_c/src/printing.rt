@@ -20,8 +20,10 @@ use lx_tables::Tables;
 use std::io::{self, Write};
 
 fn write_name_function<W: Write>(out: &mut W, options: &Options) -> Result<(), io::Error>
-    ensures ok { OnOk result (Wrote (W.contents out.old) (W.contents out.new) (name_text options.now)) }
-    ensures err { OnErr result (WrotePrefix (W.contents out.old) (W.contents out.new) (name_text options.now)) }
+    ensures ok { OnOk result
+        (Wrote (W.contents out.old) (W.contents out.new) (name_text options.now)) }
+    ensures err { OnErr result
+        (WrotePrefix (W.contents out.old) (W.contents out.new) (name_text options.now)) }
 {
     if options.has_include() {
         write_filled(out, options, NAME_OF_KIND)
@@ -31,8 +33,10 @@ fn write_name_function<W: Write>(out: &mut W, options: &Options) -> Result<(), i
 }
 
 fn write_first_line<W: Write>(out: &mut W, options: &Options) -> Result<(), io::Error>
-    ensures ok { OnOk result (Wrote (W.contents out.old) (W.contents out.new) (first_line_text options.now)) }
-    ensures err { OnErr result (WrotePrefix (W.contents out.old) (W.contents out.new) (first_line_text options.now)) }
+    ensures ok { OnOk result
+        (Wrote (W.contents out.old) (W.contents out.new) (first_line_text options.now)) }
+    ensures err { OnErr result
+        (WrotePrefix (W.contents out.old) (W.contents out.new) (first_line_text options.now)) }
 {
     if options.is_direct() {
         write_filled(out, options, DIRECT_FIRST_LINE)
@@ -42,8 +46,10 @@ fn write_first_line<W: Write>(out: &mut W, options: &Options) -> Result<(), io::
 }
 
 fn write_arrays<W: Write>(out: &mut W, options: &Options, tables: &Tables) -> Result<(), io::Error>
-    ensures ok { OnOk result (Wrote (W.contents out.old) (W.contents out.new) (arrays_text options.now tables.now)) }
-    ensures err { OnErr result (WrotePrefix (W.contents out.old) (W.contents out.new) (arrays_text options.now tables.now)) }
+    ensures ok { OnOk result
+        (Wrote (W.contents out.old) (W.contents out.new) (arrays_text options.now tables.now)) }
+    ensures err { OnErr result (WrotePrefix (W.contents out.old) (W.contents out.new)
+        (arrays_text options.now tables.now)) }
 {
     if options.is_direct() {
         write_marked(out, options, tables)
@@ -53,8 +59,10 @@ fn write_arrays<W: Write>(out: &mut W, options: &Options, tables: &Tables) -> Re
 }
 
 fn write_helpers<W: Write>(out: &mut W, options: &Options) -> Result<(), io::Error>
-    ensures ok { OnOk result (Wrote (W.contents out.old) (W.contents out.new) (helpers_text options.now)) }
-    ensures err { OnErr result (WrotePrefix (W.contents out.old) (W.contents out.new) (helpers_text options.now)) }
+    ensures ok { OnOk result
+        (Wrote (W.contents out.old) (W.contents out.new) (helpers_text options.now)) }
+    ensures err { OnErr result
+        (WrotePrefix (W.contents out.old) (W.contents out.new) (helpers_text options.now)) }
 {
     if options.is_direct() {
         write_filled(out, options, MACROS)
@@ -64,8 +72,10 @@ fn write_helpers<W: Write>(out: &mut W, options: &Options) -> Result<(), io::Err
 }
 
 fn write_walk<W: Write>(out: &mut W, options: &Options, tables: &Tables) -> Result<(), io::Error>
-    ensures ok { OnOk result (Wrote (W.contents out.old) (W.contents out.new) (walk_text options.now tables.now)) }
-    ensures err { OnErr result (WrotePrefix (W.contents out.old) (W.contents out.new) (walk_text options.now tables.now)) }
+    ensures ok { OnOk result
+        (Wrote (W.contents out.old) (W.contents out.new) (walk_text options.now tables.now)) }
+    ensures err { OnErr result
+        (WrotePrefix (W.contents out.old) (W.contents out.new) (walk_text options.now tables.now)) }
 {
     if options.is_direct() {
         write_direct(out, options, tables)
@@ -75,8 +85,10 @@ fn write_walk<W: Write>(out: &mut W, options: &Options, tables: &Tables) -> Resu
 }
 
 fn write_last_lines<W: Write>(out: &mut W, options: &Options) -> Result<(), io::Error>
-    ensures ok { OnOk result (Wrote (W.contents out.old) (W.contents out.new) (last_lines_text options.now)) }
-    ensures err { OnErr result (WrotePrefix (W.contents out.old) (W.contents out.new) (last_lines_text options.now)) }
+    ensures ok { OnOk result
+        (Wrote (W.contents out.old) (W.contents out.new) (last_lines_text options.now)) }
+    ensures err { OnErr result
+        (WrotePrefix (W.contents out.old) (W.contents out.new) (last_lines_text options.now)) }
 {
     if options.is_direct() {
         write_filled(out, options, DIRECT_LAST_LINES)
@@ -86,8 +98,10 @@ fn write_last_lines<W: Write>(out: &mut W, options: &Options) -> Result<(), io::
 }
 
 fn write_calls<W: Write>(out: &mut W, options: &Options) -> Result<(), io::Error>
-    ensures ok { OnOk result (Wrote (W.contents out.old) (W.contents out.new) (calls_text options.now)) }
-    ensures err { OnErr result (WrotePrefix (W.contents out.old) (W.contents out.new) (calls_text options.now)) }
+    ensures ok { OnOk result
+        (Wrote (W.contents out.old) (W.contents out.new) (calls_text options.now)) }
+    ensures err { OnErr result
+        (WrotePrefix (W.contents out.old) (W.contents out.new) (calls_text options.now)) }
 {
     write_filled(out, options, HELPERS)?;
     write_helpers(out, options)?;
@@ -95,8 +109,10 @@ fn write_calls<W: Write>(out: &mut W, options: &Options) -> Result<(), io::Error
 }
 
 fn write_further_calls<W: Write>(out: &mut W, options: &Options) -> Result<(), io::Error>
-    ensures ok { OnOk result (Wrote (W.contents out.old) (W.contents out.new) (further_text options.now)) }
-    ensures err { OnErr result (WrotePrefix (W.contents out.old) (W.contents out.new) (further_text options.now)) }
+    ensures ok { OnOk result
+        (Wrote (W.contents out.old) (W.contents out.new) (further_text options.now)) }
+    ensures err { OnErr result
+        (WrotePrefix (W.contents out.old) (W.contents out.new) (further_text options.now)) }
 {
     write_filled(out, options, FURTHER_CALLS)?;
     write_name_function(out, options)?;
@@ -104,8 +120,10 @@ fn write_further_calls<W: Write>(out: &mut W, options: &Options) -> Result<(), i
 }
 
 fn write_driver<W: Write>(out: &mut W, options: &Options, tables: &Tables) -> Result<(), io::Error>
-    ensures ok { OnOk result (Wrote (W.contents out.old) (W.contents out.new) (driver_text options.now tables.now)) }
-    ensures err { OnErr result (WrotePrefix (W.contents out.old) (W.contents out.new) (driver_text options.now tables.now)) }
+    ensures ok { OnOk result
+        (Wrote (W.contents out.old) (W.contents out.new) (driver_text options.now tables.now)) }
+    ensures err { OnErr result (WrotePrefix (W.contents out.old) (W.contents out.new)
+        (driver_text options.now tables.now)) }
 {
     write_calls(out, options)?;
     write_walk(out, options, tables)?;
@@ -119,8 +137,10 @@ fn write_scanner<W: Write>(
     tables: &Tables,
 ) -> Result<(), io::Error>
     requires { first ≤ max_first_kind }
-    ensures ok { OnOk result (Wrote (W.contents out.old) (W.contents out.new) (c_from options.now first tables.now)) }
-    ensures err { OnErr result (WrotePrefix (W.contents out.old) (W.contents out.new) (c_from options.now first tables.now)) }
+    ensures ok { OnOk result
+        (Wrote (W.contents out.old) (W.contents out.new) (c_from options.now first tables.now)) }
+    ensures err { OnErr result (WrotePrefix (W.contents out.old) (W.contents out.new)
+        (c_from options.now first tables.now)) }
 {
     write_first_line(out, options)?;
     write_header(out, options, first, tables)?;
@@ -131,8 +151,10 @@ fn write_scanner<W: Write>(
 
 /// Writes a scanner in C, without memory. Behind an error, or a write of 0 bytes, which is one, a prefix of it was written.
 pub fn print_c<W: Write>(out: &mut W, tables: &Tables, options: &Options) -> Result<(), io::Error>
-    ensures ok { OnOk result (Wrote (W.contents out.old) (W.contents out.new) (c_text options.now tables.now)) }
-    ensures err { OnErr result (WrotePrefix (W.contents out.old) (W.contents out.new) (c_text options.now tables.now)) }
+    ensures ok { OnOk result
+        (Wrote (W.contents out.old) (W.contents out.new) (c_text options.now tables.now)) }
+    ensures err { OnErr result
+        (WrotePrefix (W.contents out.old) (W.contents out.new) (c_text options.now tables.now)) }
 {
     write_scanner(out, options, first_kind(tables), tables)
 }
@@ -143,8 +165,10 @@ pub fn print_header<W: Write>(
     tables: &Tables,
     options: &Options,
 ) -> Result<(), io::Error>
-    ensures ok { OnOk result (Wrote (W.contents out.old) (W.contents out.new) (header_text options.now tables.now)) }
-    ensures err { OnErr result (WrotePrefix (W.contents out.old) (W.contents out.new) (header_text options.now tables.now)) }
+    ensures ok { OnOk result
+        (Wrote (W.contents out.old) (W.contents out.new) (header_text options.now tables.now)) }
+    ensures err { OnErr result (WrotePrefix (W.contents out.old) (W.contents out.new)
+        (header_text options.now tables.now)) }
 {
     write_header(out, options, first_kind(tables), tables)
 }

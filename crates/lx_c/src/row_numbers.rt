@@ -17,7 +17,8 @@ fn row_of(tables: &Tables, state: State) -> u64
 pub fn target_word(tables: &Tables, state: u32, class: u8) -> u64
     requires state { state < state_count tables.now.machine }
     requires class { class < tables.now.machine.width }
-    ensures { result ≡ rows.target_word tables.now.machine (class_target tables.now.machine state class) }
+    ensures { result
+        ≡ rows.target_word tables.now.machine (class_target tables.now.machine state class) }
 {
     match tables.class_step(State(state), class) {
         None => 0,
@@ -39,7 +40,8 @@ pub fn rule_word(tables: &Tables, state: u32) -> u32
 /// Where the row of the state begins in which a condition starts.
 pub fn start_word(tables: &Tables, condition: u16, at_line_begin: bool) -> u64
     requires { condition < length tables.now.machine.starts }
-    ensures { result ≡ rows.row_of tables.now.machine (start_of tables.now.machine condition at_line_begin) }
+    ensures { result
+        ≡ rows.row_of tables.now.machine (start_of tables.now.machine condition at_line_begin) }
 {
     row_of(tables, tables.start(condition, at_line_begin))
 }

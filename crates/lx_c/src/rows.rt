@@ -28,7 +28,8 @@ fn class_word(tables: &Tables, byte: u16) -> u64
 /// Whether a condition has another start at line begin.
 fn starts_differ(tables: &Tables, condition: u16) -> bool
     requires { condition < length tables.now.machine.starts }
-    ensures { result ≡ rows.starts_differ (slice_index_or tables.now.machine.starts condition (0, 0)) }
+    ensures { result
+        ≡ rows.starts_differ (slice_index_or tables.now.machine.starts condition (0, 0)) }
 {
     tables.start(condition, false).0 != tables.start(condition, true).0
 }
@@ -47,14 +48,17 @@ fn has_line_begin(tables: &Tables) -> bool
 
 fn write_entry<W: Write>(out: &mut W, n: u64) -> Result<(), io::Error>
     ensures ok { OnOk result (Wrote (W.contents out.old) (W.contents out.new) (entry_text n)) }
-    ensures err { OnErr result (WrotePrefix (W.contents out.old) (W.contents out.new) (entry_text n)) }
+    ensures err { OnErr result
+        (WrotePrefix (W.contents out.old) (W.contents out.new) (entry_text n)) }
 {
     write_number_then(out, n, b",")
 }
 
 fn write_zero_entries<W: Write>(out: &mut W, tables: &Tables) -> Result<(), io::Error>
-    ensures ok { OnOk result (Wrote (W.contents out.old) (W.contents out.new) (flat_map (λ c. entry_text 0) (range_with_len 0 (row_width tables.now.machine)))) }
-    ensures err { OnErr result (WrotePrefix (W.contents out.old) (W.contents out.new) (flat_map (λ c. entry_text 0) (range_with_len 0 (row_width tables.now.machine)))) }
+    ensures ok { OnOk result (Wrote (W.contents out.old) (W.contents out.new)
+        (flat_map (λ c. entry_text 0) (range_with_len 0 (row_width tables.now.machine)))) }
+    ensures err { OnErr result (WrotePrefix (W.contents out.old) (W.contents out.new)
+        (flat_map (λ c. entry_text 0) (range_with_len 0 (row_width tables.now.machine)))) }
 {
     for class in 0..u32::from(tables.classes()) + 1 {
         write_entry(out, 0)?;
@@ -64,8 +68,15 @@ fn write_zero_entries<W: Write>(out: &mut W, tables: &Tables) -> Result<(), io::
 
 fn write_step_entries<W: Write>(out: &mut W, tables: &Tables, state: u32) -> Result<(), io::Error>
     requires { state < state_count tables.now.machine }
-    ensures ok { OnOk result (Wrote (W.contents out.old) (W.contents out.new) (flat_map (λ k. entry_text (words.target_word tables.now.machine (class_target tables.now.machine state k))) (range_with_len 0 (tables.now.machine.width)))) }
-    ensures err { OnErr result (WrotePrefix (W.contents out.old) (W.contents out.new) (flat_map (λ k. entry_text (words.target_word tables.now.machine (class_target tables.now.machine state k))) (range_with_len 0 (tables.now.machine.width)))) }
+    ensures ok { OnOk result (Wrote (W.contents out.old) (W.contents out.new) (flat_map (λ k.
+        entry_text (words.target_word tables.now.machine
+        (class_target tables.now.machine state k)))
+        (range_with_len 0 (tables.now.machine.width)))) }
+    ensures err { OnErr result (WrotePrefix (W.contents out.old) (W.contents out.new) (flat_map
+        (λ k.
+        entry_text (words.target_word tables.now.machine
+        (class_target tables.now.machine state k)))
+        (range_with_len 0 (tables.now.machine.width)))) }
 {
     for class in 0..tables.classes() {
         write_entry(out, target_word(tables, state, class as u8))?;
@@ -75,8 +86,10 @@ fn write_step_entries<W: Write>(out: &mut W, tables: &Tables, state: u32) -> Res
 
 fn write_row<W: Write>(out: &mut W, tables: &Tables, state: u32) -> Result<(), io::Error>
     requires { state < state_count tables.now.machine }
-    ensures ok { OnOk result (Wrote (W.contents out.old) (W.contents out.new) (row_text tables.now.machine state)) }
-    ensures err { OnErr result (WrotePrefix (W.contents out.old) (W.contents out.new) (row_text tables.now.machine state)) }
+    ensures ok { OnOk result
+        (Wrote (W.contents out.old) (W.contents out.new) (row_text tables.now.machine state)) }
+    ensures err { OnErr result (WrotePrefix (W.contents out.old) (W.contents out.new)
+        (row_text tables.now.machine state)) }
 {
     write_step_entries(out, tables, state)?;
     write_entry(out, u64::from(rule_word(tables, state)))?;
@@ -84,8 +97,12 @@ fn write_row<W: Write>(out: &mut W, tables: &Tables, state: u32) -> Result<(), i
 }
 
 fn write_row_lines<W: Write>(out: &mut W, tables: &Tables) -> Result<(), io::Error>
-    ensures ok { OnOk result (Wrote (W.contents out.old) (W.contents out.new) (flat_map (row_text tables.now.machine) (range_with_len 0 (state_count tables.now.machine)))) }
-    ensures err { OnErr result (WrotePrefix (W.contents out.old) (W.contents out.new) (flat_map (row_text tables.now.machine) (range_with_len 0 (state_count tables.now.machine)))) }
+    ensures ok { OnOk result (Wrote (W.contents out.old) (W.contents out.new) (flat_map
+        (row_text tables.now.machine)
+        (range_with_len 0 (state_count tables.now.machine)))) }
+    ensures err { OnErr result (WrotePrefix (W.contents out.old) (W.contents out.new) (flat_map
+        (row_text tables.now.machine)
+        (range_with_len 0 (state_count tables.now.machine)))) }
 {
     for state in 0..tables.states() {
         write_row(out, tables, state)?;
@@ -94,8 +111,10 @@ fn write_row_lines<W: Write>(out: &mut W, tables: &Tables) -> Result<(), io::Err
 }
 
 fn write_rows<W: Write>(out: &mut W, tables: &Tables) -> Result<(), io::Error>
-    ensures ok { OnOk result (Wrote (W.contents out.old) (W.contents out.new) (rows_text tables.now.machine)) }
-    ensures err { OnErr result (WrotePrefix (W.contents out.old) (W.contents out.new) (rows_text tables.now.machine)) }
+    ensures ok { OnOk result
+        (Wrote (W.contents out.old) (W.contents out.new) (rows_text tables.now.machine)) }
+    ensures err { OnErr result
+        (WrotePrefix (W.contents out.old) (W.contents out.new) (rows_text tables.now.machine)) }
 {
     write_zero_entries(out, tables)?;
     write_bytes(out, b"\n")?;
@@ -103,8 +122,12 @@ fn write_rows<W: Write>(out: &mut W, tables: &Tables) -> Result<(), io::Error>
 }
 
 fn write_class_entries<W: Write>(out: &mut W, tables: &Tables) -> Result<(), io::Error>
-    ensures ok { OnOk result (Wrote (W.contents out.old) (W.contents out.new) (flat_map (λ b. entry_text (slice_index tables.now.machine.classes b)) (range_with_len 0 (256)))) }
-    ensures err { OnErr result (WrotePrefix (W.contents out.old) (W.contents out.new) (flat_map (λ b. entry_text (slice_index tables.now.machine.classes b)) (range_with_len 0 (256)))) }
+    ensures ok { OnOk result (Wrote (W.contents out.old) (W.contents out.new) (flat_map
+        (λ b. entry_text (slice_index tables.now.machine.classes b))
+        (range_with_len 0 (256)))) }
+    ensures err { OnErr result (WrotePrefix (W.contents out.old) (W.contents out.new) (flat_map
+        (λ b. entry_text (slice_index tables.now.machine.classes b))
+        (range_with_len 0 (256)))) }
 {
     for byte in 0..256 {
         write_entry(out, class_word(tables, byte))?;
@@ -114,8 +137,10 @@ fn write_class_entries<W: Write>(out: &mut W, tables: &Tables) -> Result<(), io:
 
 fn write_start<W: Write>(out: &mut W, tables: &Tables, condition: u16) -> Result<(), io::Error>
     requires { condition < length tables.now.machine.starts }
-    ensures ok { OnOk result (Wrote (W.contents out.old) (W.contents out.new) (start_line tables.now.machine condition)) }
-    ensures err { OnErr result (WrotePrefix (W.contents out.old) (W.contents out.new) (start_line tables.now.machine condition)) }
+    ensures ok { OnOk result (Wrote (W.contents out.old) (W.contents out.new)
+        (start_line tables.now.machine condition)) }
+    ensures err { OnErr result (WrotePrefix (W.contents out.old) (W.contents out.new)
+        (start_line tables.now.machine condition)) }
 {
     write_entry(out, start_word(tables, condition, false))?;
     write_entry(out, start_word(tables, condition, true))?;
@@ -123,8 +148,12 @@ fn write_start<W: Write>(out: &mut W, tables: &Tables, condition: u16) -> Result
 }
 
 fn write_starts<W: Write>(out: &mut W, tables: &Tables) -> Result<(), io::Error>
-    ensures ok { OnOk result (Wrote (W.contents out.old) (W.contents out.new) (flat_map (start_line tables.now.machine) (range_with_len 0 (length tables.now.machine.starts)))) }
-    ensures err { OnErr result (WrotePrefix (W.contents out.old) (W.contents out.new) (flat_map (start_line tables.now.machine) (range_with_len 0 (length tables.now.machine.starts)))) }
+    ensures ok { OnOk result (Wrote (W.contents out.old) (W.contents out.new) (flat_map
+        (start_line tables.now.machine)
+        (range_with_len 0 (length tables.now.machine.starts)))) }
+    ensures err { OnErr result (WrotePrefix (W.contents out.old) (W.contents out.new) (flat_map
+        (start_line tables.now.machine)
+        (range_with_len 0 (length tables.now.machine.starts)))) }
 {
     for condition in 0..tables.conditions() {
         write_start(out, tables, condition)?;
@@ -134,7 +163,8 @@ fn write_starts<W: Write>(out: &mut W, tables: &Tables) -> Result<(), io::Error>
 
 fn write_type_of<W: Write>(out: &mut W, most: u64) -> Result<(), io::Error>
     ensures ok { OnOk result (Wrote (W.contents out.old) (W.contents out.new) (type_text most)) }
-    ensures err { OnErr result (WrotePrefix (W.contents out.old) (W.contents out.new) (type_text most)) }
+    ensures err { OnErr result
+        (WrotePrefix (W.contents out.old) (W.contents out.new) (type_text most)) }
 {
     if most < 256 {
         write_bytes(out, b"unsigned char")
@@ -146,8 +176,10 @@ fn write_type_of<W: Write>(out: &mut W, most: u64) -> Result<(), io::Error>
 }
 
 fn write_type<W: Write>(out: &mut W, tables: &Tables) -> Result<(), io::Error>
-    ensures ok { OnOk result (Wrote (W.contents out.old) (W.contents out.new) (type_text (words.greatest_word tables.now))) }
-    ensures err { OnErr result (WrotePrefix (W.contents out.old) (W.contents out.new) (type_text (words.greatest_word tables.now))) }
+    ensures ok { OnOk result (Wrote (W.contents out.old) (W.contents out.new)
+        (type_text (words.greatest_word tables.now))) }
+    ensures err { OnErr result (WrotePrefix (W.contents out.old) (W.contents out.new)
+        (type_text (words.greatest_word tables.now))) }
 {
     write_type_of(out, greatest_word(tables))
 }
@@ -158,8 +190,10 @@ pub(crate) fn write_line_begin<W: Write>(
     options: &Options,
     tables: &Tables,
 ) -> Result<(), io::Error>
-    ensures ok { OnOk result (Wrote (W.contents out.old) (W.contents out.new) (line_begin_text options.now tables.now)) }
-    ensures err { OnErr result (WrotePrefix (W.contents out.old) (W.contents out.new) (line_begin_text options.now tables.now)) }
+    ensures ok { OnOk result
+        (Wrote (W.contents out.old) (W.contents out.new) (line_begin_text options.now tables.now)) }
+    ensures err { OnErr result (WrotePrefix (W.contents out.old) (W.contents out.new)
+        (line_begin_text options.now tables.now)) }
 {
     if has_line_begin(tables) {
         write_filled(out, options, LINE_BEGIN)
@@ -169,16 +203,20 @@ pub(crate) fn write_line_begin<W: Write>(
 }
 
 fn write_width<W: Write>(out: &mut W, options: &Options, tables: &Tables) -> Result<(), io::Error>
-    ensures ok { OnOk result (Wrote (W.contents out.old) (W.contents out.new) (width_text options.now tables.now)) }
-    ensures err { OnErr result (WrotePrefix (W.contents out.old) (W.contents out.new) (width_text options.now tables.now)) }
+    ensures ok { OnOk result
+        (Wrote (W.contents out.old) (W.contents out.new) (width_text options.now tables.now)) }
+    ensures err { OnErr result (WrotePrefix (W.contents out.old) (W.contents out.new)
+        (width_text options.now tables.now)) }
 {
     write_filled(out, options, WIDTH)?;
     write_number_then(out, u64::from(tables.classes()), b"\n")
 }
 
 fn write_classes<W: Write>(out: &mut W, options: &Options, tables: &Tables) -> Result<(), io::Error>
-    ensures ok { OnOk result (Wrote (W.contents out.old) (W.contents out.new) (classes_text options.now tables.now)) }
-    ensures err { OnErr result (WrotePrefix (W.contents out.old) (W.contents out.new) (classes_text options.now tables.now)) }
+    ensures ok { OnOk result
+        (Wrote (W.contents out.old) (W.contents out.new) (classes_text options.now tables.now)) }
+    ensures err { OnErr result (WrotePrefix (W.contents out.old) (W.contents out.new)
+        (classes_text options.now tables.now)) }
 {
     write_filled(out, options, CLASSES)?;
     write_class_entries(out, tables)?;
@@ -190,8 +228,10 @@ fn write_rows_array<W: Write>(
     options: &Options,
     tables: &Tables,
 ) -> Result<(), io::Error>
-    ensures ok { OnOk result (Wrote (W.contents out.old) (W.contents out.new) (word_array options.now tables.now ROWS.now (rows_text tables.now.machine))) }
-    ensures err { OnErr result (WrotePrefix (W.contents out.old) (W.contents out.new) (word_array options.now tables.now ROWS.now (rows_text tables.now.machine))) }
+    ensures ok { OnOk result (Wrote (W.contents out.old) (W.contents out.new)
+        (word_array options.now tables.now ROWS.now (rows_text tables.now.machine))) }
+    ensures err { OnErr result (WrotePrefix (W.contents out.old) (W.contents out.new)
+        (word_array options.now tables.now ROWS.now (rows_text tables.now.machine))) }
 {
     write_bytes(out, b"static const ")?;
     write_type(out, tables)?;
@@ -205,8 +245,10 @@ fn write_starts_array<W: Write>(
     options: &Options,
     tables: &Tables,
 ) -> Result<(), io::Error>
-    ensures ok { OnOk result (Wrote (W.contents out.old) (W.contents out.new) (word_array options.now tables.now STARTS.now (start_lines tables.now.machine))) }
-    ensures err { OnErr result (WrotePrefix (W.contents out.old) (W.contents out.new) (word_array options.now tables.now STARTS.now (start_lines tables.now.machine))) }
+    ensures ok { OnOk result (Wrote (W.contents out.old) (W.contents out.new)
+        (word_array options.now tables.now STARTS.now (start_lines tables.now.machine))) }
+    ensures err { OnErr result (WrotePrefix (W.contents out.old) (W.contents out.new)
+        (word_array options.now tables.now STARTS.now (start_lines tables.now.machine))) }
 {
     write_bytes(out, b"static const ")?;
     write_type(out, tables)?;
@@ -221,8 +263,10 @@ pub(crate) fn write_automaton<W: Write>(
     options: &Options,
     tables: &Tables,
 ) -> Result<(), io::Error>
-    ensures ok { OnOk result (Wrote (W.contents out.old) (W.contents out.new) (automaton_text options.now tables.now)) }
-    ensures err { OnErr result (WrotePrefix (W.contents out.old) (W.contents out.new) (automaton_text options.now tables.now)) }
+    ensures ok { OnOk result
+        (Wrote (W.contents out.old) (W.contents out.new) (automaton_text options.now tables.now)) }
+    ensures err { OnErr result (WrotePrefix (W.contents out.old) (W.contents out.new)
+        (automaton_text options.now tables.now)) }
 {
     write_line_begin(out, options, tables)?;
     write_width(out, options, tables)?;

@@ -75,8 +75,10 @@ pub(crate) fn write_numbered_text<W: Write>(
     n: u32,
     behind: &[u8],
 ) -> Result<(), io::Error>
-    ensures ok { OnOk result (Wrote (W.contents out.old) (W.contents out.new) (numbered options.now template.now n behind.now)) }
-    ensures err { OnErr result (WrotePrefix (W.contents out.old) (W.contents out.new) (numbered options.now template.now n behind.now)) }
+    ensures ok { OnOk result (Wrote (W.contents out.old) (W.contents out.new)
+        (numbered options.now template.now n behind.now)) }
+    ensures err { OnErr result (WrotePrefix (W.contents out.old) (W.contents out.new)
+        (numbered options.now template.now n behind.now)) }
 {
     write_filled(out, options, template)?;
     write_number_then(out, u64::from(n), behind)

@@ -27,8 +27,10 @@ pub(crate) fn write_bytes<W: Write>(out: &mut W, bytes: &[u8]) -> Result<(), io:
 
 /// Writes parts, one behind the other.
 pub(crate) fn write_parts<W: Write>(out: &mut W, parts: &[&[u8]]) -> Result<(), io::Error>
-    ensures ok { OnOk result (Wrote (W.contents out.old) (W.contents out.new) (flat_map (λ part. part.now) parts.now)) }
-    ensures err { OnErr result (WrotePrefix (W.contents out.old) (W.contents out.new) (flat_map (λ part. part.now) parts.now)) }
+    ensures ok { OnOk result
+        (Wrote (W.contents out.old) (W.contents out.new) (flat_map (λ part. part.now) parts.now)) }
+    ensures err { OnErr result (WrotePrefix (W.contents out.old) (W.contents out.new)
+        (flat_map (λ part. part.now) parts.now)) }
 {
     for part in parts {
         write_bytes(out, part)?;
@@ -38,8 +40,10 @@ pub(crate) fn write_parts<W: Write>(out: &mut W, parts: &[&[u8]]) -> Result<(), 
 
 /// Writes a word and a number.
 pub(crate) fn write_numbered<W: Write>(out: &mut W, word: &[u8], n: u64) -> Result<(), io::Error>
-    ensures ok { OnOk result (Wrote (W.contents out.old) (W.contents out.new) (word.now ++ number n)) }
-    ensures err { OnErr result (WrotePrefix (W.contents out.old) (W.contents out.new) (word.now ++ number n)) }
+    ensures ok { OnOk result
+        (Wrote (W.contents out.old) (W.contents out.new) (word.now ++ number n)) }
+    ensures err { OnErr result
+        (WrotePrefix (W.contents out.old) (W.contents out.new) (word.now ++ number n)) }
 {
     let mut digits = Buffer::new();
     write_parts(out, &[word, digits.format(n).as_bytes()])
@@ -51,8 +55,10 @@ pub(crate) fn write_number_then<W: Write>(
     n: u64,
     behind: &[u8],
 ) -> Result<(), io::Error>
-    ensures ok { OnOk result (Wrote (W.contents out.old) (W.contents out.new) (number_then n behind.now)) }
-    ensures err { OnErr result (WrotePrefix (W.contents out.old) (W.contents out.new) (number_then n behind.now)) }
+    ensures ok { OnOk result
+        (Wrote (W.contents out.old) (W.contents out.new) (number_then n behind.now)) }
+    ensures err { OnErr result
+        (WrotePrefix (W.contents out.old) (W.contents out.new) (number_then n behind.now)) }
 {
     let mut digits = Buffer::new();
     write_parts(out, &[digits.format(n).as_bytes(), behind])

@@ -54,9 +54,14 @@ fn looked_up(
 ) -> Result<LookedUp, AllocError>
     requires tables { AreTablesOf (spec_view spec.now) tables.now }
     requires few_positions { count_of_spec (spec_view spec.now) ≤ max_positions }
-    ensures counts { IfOk result (λ looked. AreCounts (spec_view spec.now) tables.now looked.counts) }
-    ensures chosen { IfOk result (λ looked. AreFlagsOf (length (spec_view spec.now).rules) (IsEverChosenBy (spec_view spec.now)) looked.chosen.items) }
-    ensures entered { IfOk result (λ looked. AreFlagsOf (length (spec_view spec.now).conditions) (IsEntered tables.now) looked.entered.items) }
+    ensures counts { IfOk result
+        (λ looked. AreCounts (spec_view spec.now) tables.now looked.counts) }
+    ensures chosen { IfOk result (λ looked.
+        AreFlagsOf (length (spec_view spec.now).rules) (IsEverChosenBy (spec_view spec.now))
+        looked.chosen.items) }
+    ensures entered { IfOk result (λ looked.
+        AreFlagsOf (length (spec_view spec.now).conditions) (IsEntered tables.now)
+        looked.entered.items) }
 {
     chosen_is_by_rules();
     let counts = counts_of(alloc, spec, tables)?;
@@ -76,9 +81,11 @@ fn accepted(alloc: Global, text: &[u8], spec: Spec, tables: Tables) -> Result<Ac
     requires tables { AreTablesOf (spec_view spec) tables }
     requires few_positions { count_of_spec (spec_view spec) ≤ max_positions }
     ensures spec { IfOk result (λ accepted. spec_view accepted.spec ≡ spec_view spec) }
-    ensures tables { IfOk result (λ accepted. AreTablesOf (spec_view accepted.spec) accepted.tables) }
+    ensures tables { IfOk result
+        (λ accepted. AreTablesOf (spec_view accepted.spec) accepted.tables) }
     ensures chosen { IfOk result TellsChosen }
-    ensures counts { IfOk result (λ accepted. AreCounts (spec_view accepted.spec) accepted.tables accepted.counts) }
+    ensures counts { IfOk result
+        (λ accepted. AreCounts (spec_view accepted.spec) accepted.tables accepted.counts) }
 {
     let LookedUp {
         counts,
@@ -101,7 +108,8 @@ pub fn check(alloc: Global, text: &[u8], most: usize) -> Result<Report, AllocErr
     ensures first { IfOk result (IsVerdict text.now) }
     ensures each { IfOk result (IfRefused (AreFindings most text.now)) }
     ensures chosen { IfOk result (IfAccepted TellsChosen) }
-    ensures counts { IfOk result (IfAccepted (λ accepted. AreCounts (spec_view accepted.spec) accepted.tables accepted.counts)) }
+    ensures counts { IfOk result (IfAccepted
+        (λ accepted. AreCounts (spec_view accepted.spec) accepted.tables accepted.counts)) }
 {
     let spec = match read(alloc, text)? {
         Ok(spec) => spec,

@@ -21,7 +21,9 @@ fn with_further(
     most: usize,
     left: usize,
 ) -> Result<Vec<Finding>, AllocError>
-    ensures { IfOk result (λ found. HasFurther most left (option_map (λ text. text.items) rest) findings.items found.items) }
+    ensures { IfOk result (λ found.
+        HasFurther most left (option_map (λ text. text.items) rest) findings.items
+        found.items) }
 {
     let mut findings = findings;
     let mut rest = rest;

@@ -37,8 +37,10 @@ pub fn read(alloc: Global, text: &[u8]) -> Result<Result<Spec, SpecFault>, Alloc
 fn automaton_of(alloc: Global, spec: &Spec) -> Result<Automaton, BuildFault>
     ensures automaton { IfOk result (λ a. IsAutomatonOf (spec_view spec.now) a) }
     ensures few_positions { IfOk result (λ _. count_of_spec (spec_view spec.now) ≤ max_positions) }
-    ensures positions { IfErr result (λ e. e ≡ BuildFault.TooManyPositions → HasTooManyPositions (spec_view spec.now)) }
-    ensures sets { IfErr result (λ e. e ≡ BuildFault.TooManySets → HasTooManySets (spec_view spec.now)) }
+    ensures positions { IfErr result
+        (λ e. e ≡ BuildFault.TooManyPositions → HasTooManyPositions (spec_view spec.now)) }
+    ensures sets { IfErr result
+        (λ e. e ≡ BuildFault.TooManySets → HasTooManySets (spec_view spec.now)) }
 {
     let built = build(alloc, spec)?;
     Ok(merge(alloc, &built)?)
@@ -46,8 +48,10 @@ fn automaton_of(alloc: Global, spec: &Spec) -> Result<Automaton, BuildFault>
 
 /// Makes the tables of a specification, or returns the fault that it is too large. Err: an allocation failed.
 pub fn tables_of(alloc: Global, spec: &Spec) -> Result<Result<Tables, Finding>, AllocError>
-    ensures ok { IfOk result (λ made. IfOk made (λ tables. AreTablesOf (spec_view spec.now) tables)) }
-    ensures few_positions { IfOk result (λ made. IfOk made (λ _. count_of_spec (spec_view spec.now) ≤ max_positions)) }
+    ensures ok { IfOk result
+        (λ made. IfOk made (λ tables. AreTablesOf (spec_view spec.now) tables)) }
+    ensures few_positions { IfOk result
+        (λ made. IfOk made (λ _. count_of_spec (spec_view spec.now) ≤ max_positions)) }
     ensures err { IfOk result (λ made. IfErr made (IsTooLarge (spec_view spec.now))) }
 {
     match automaton_of(alloc, spec) {

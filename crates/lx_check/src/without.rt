@@ -46,7 +46,8 @@ fn push_line(
     number: usize,
     line: &[u8],
 ) -> Result<(), AllocError>
-    ensures { OnOk result (made.new.items ≡ made.old.items ++ specs.line_instead this.now first end number line.now) }
+    ensures { OnOk result
+        (made.new.items ≡ made.old.items ++ specs.line_instead this.now first end number line.now) }
 {
     made.extend_from_slice(line_instead(this, first, end, number, line))?;
     Ok(())
@@ -129,7 +130,8 @@ fn if_short(text: Vec<u8>) -> Option<Vec<u8>>
 // Makes a text in which the rule that begins on this line does nothing.
 fn without_rule(alloc: Global, text: &[u8], line: u32) -> Result<Option<Vec<u8>>, AllocError>
     requires { length text.now ≤ max_specification_bytes }
-    ensures { IfOk result (λ rest. option_map (λ made. made.items) rest ≡ specs.without_rule text.now line) }
+    ensures { IfOk result
+        (λ rest. option_map (λ made. made.items) rest ≡ specs.without_rule text.now line) }
 {
     let Some(end) = rule_end(alloc, text, line)? else {
         return Ok(None);
@@ -139,7 +141,9 @@ fn without_rule(alloc: Global, text: &[u8], line: u32) -> Result<Option<Vec<u8>>
 
 // Makes a text in which this line is empty.
 fn without_line(alloc: Global, text: &[u8], line: u32) -> Result<Option<Vec<u8>>, AllocError>
-    ensures { IfOk result (λ rest. option_map (λ made. made.items) rest ≡ specs.without_lines (10 ∷ []) line (Some (line + 1)) text.now) }
+    ensures { IfOk result (λ rest.
+        option_map (λ made. made.items) rest
+        ≡ specs.without_lines (10 ∷ []) line (Some (line + 1)) text.now) }
 {
     let first = line as usize;
     Ok(if_short(text_instead(alloc, b"\n", first, first + 1, text)?))
@@ -184,7 +188,8 @@ fn declares_one(line: &[u8]) -> bool
 
 // Makes a text without the declaration on this line, if that declares only one name.
 fn without_declaration(alloc: Global, text: &[u8], line: u32) -> Result<Option<Vec<u8>>, AllocError>
-    ensures { IfOk result (λ rest. option_map (λ made. made.items) rest ≡ specs.without_declaration text.now line) }
+    ensures { IfOk result
+        (λ rest. option_map (λ made. made.items) rest ≡ specs.without_declaration text.now line) }
 {
     if declares_one(line_numbered(text, line)) {
         without_line(alloc, text, line)
@@ -196,7 +201,8 @@ fn without_declaration(alloc: Global, text: &[u8], line: u32) -> Result<Option<V
 /// Masks a fault of a text. Returns `None` if the fault hides the rest of the text. Err: an allocation failed.
 pub fn without(alloc: Global, text: &[u8], fault: SpecFault) -> Result<Option<Vec<u8>>, AllocError>
     requires { IsFault text.now fault }
-    ensures { IfOk result (λ rest. option_map (λ made. made.items) rest ≡ specs.without text.now fault) }
+    ensures { IfOk result
+        (λ rest. option_map (λ made. made.items) rest ≡ specs.without text.now fault) }
 {
     match fault.code {
         Code::NoReading

@@ -41,7 +41,9 @@ fn with_subcommands<'a>(
 }
 
 fn subcommand_of<'a>(alloc: Global, subcommand: &Subcommand) -> Result<Command<'a>, AllocError>
-    ensures app { IfOk result (λ command. app_of command ≡ with_arguments (new_app subcommand.now.name.now) subcommand.now.arguments.now) }
+    ensures app { IfOk result (λ command.
+        app_of command
+        ≡ with_arguments (new_app subcommand.now.name.now) subcommand.now.arguments.now) }
     ensures local { IfOk result (λ command. (fields_of command).has_globals ≡ false) }
 {
     let command = Command::new(alloc, subcommand.name).about(subcommand.about);
@@ -54,8 +56,10 @@ fn with_arguments<'a>(
     command: Command<'a>,
     arguments: &[Argument],
 ) -> Result<Command<'a>, AllocError>
-    ensures app { IfOk result (λ new. app_of new ≡ with_arguments (app_of command.entry) arguments.now) }
-    ensures local { IfOk result (λ new. (fields_of command.entry).has_globals ≡ false → (fields_of new).has_globals ≡ false) }
+    ensures app { IfOk result
+        (λ new. app_of new ≡ with_arguments (app_of command.entry) arguments.now) }
+    ensures local { IfOk result (λ new.
+        (fields_of command.entry).has_globals ≡ false → (fields_of new).has_globals ≡ false) }
 {
     let mut command = command;
     for argument in arguments {

@@ -22,13 +22,18 @@ const WORKERS: u8 = 4;
 /// Returns the request of the arguments. The first argument is the program's name.
 pub fn read_words(alloc: Global, words: &[String]) -> Result<Request<'_>, Refusal>
     ensures asked { IfOk result (λ request. asked_by (words_of words.now) ≡ asked_as request) }
-    ensures refused { (text : Error) → result ≡ Err (Refusal.Words text) → asked_by (words_of words.now) ≡ None }
+    ensures refused { (text : Error) → result ≡ Err (Refusal.Words text)
+        → asked_by (words_of words.now) ≡ None }
     // The help and the version are answers of `clap`. All other errors reject the arguments.
-    ensures told { (text : Error) → result ≡ Ok (Request.Told text) → IsTold (kind_of text) × IsFault (words_of words.now) (kind_of text) }
-    ensures faulty { (text : Error) → result ≡ Err (Refusal.Words text) → (kind_of text ≢ ErrorKind.DisplayHelp) × (kind_of text ≢ ErrorKind.DisplayVersion) × IsFault (words_of words.now) (kind_of text) }
+    ensures told { (text : Error) → result ≡ Ok (Request.Told text)
+        → IsTold (kind_of text) × IsFault (words_of words.now) (kind_of text) }
+    ensures faulty { (text : Error) → result ≡ Err (Refusal.Words text)
+        → (kind_of text ≢ ErrorKind.DisplayHelp) × (kind_of text ≢ ErrorKind.DisplayVersion)
+        × IsFault (words_of words.now) (kind_of text) }
     ensures stored { length words.now ≤ 1 → result ≡ Ok Request.Stored }
     // A failed allocation is no fault of the arguments.
-    ensures words { (text : Error) → result ≡ Err (Refusal.Words text) → kind_of text ≢ ErrorKind.OutOfMemory }
+    ensures words { (text : Error) → result ≡ Err (Refusal.Words text)
+        → kind_of text ≢ ErrorKind.OutOfMemory }
 {
     if words.len() <= 1 {
         return Ok(Request::Stored);
@@ -47,7 +52,8 @@ pub fn read_words(alloc: Global, words: &[String]) -> Result<Request<'_>, Refusa
 // Returns the request of the matches, which have one of the command's subcommands.
 fn request_of<'a>(alloc: Global, matches: &ArgMatches<'a>) -> Result<Request<'a>, AllocError>
     requires { is_some (option_and_then asked_of (subcommand_rows_of matches.now)) ≡ true }
-    ensures { IfOk result (λ request. option_and_then asked_of (subcommand_rows_of matches.now) ≡ asked_as request) }
+    ensures { IfOk result
+        (λ request. option_and_then asked_of (subcommand_rows_of matches.now) ≡ asked_as request) }
 {
     match matches.subcommand() {
         Some((name, found)) => named_request_of(alloc, name, found),
@@ -62,7 +68,8 @@ fn named_request_of<'a>(
     found: &ArgMatches<'a>,
 ) -> Result<Request<'a>, AllocError>
     requires { is_some (asked_of (name.now, rows_of (found_of found.now))) ≡ true }
-    ensures { IfOk result (λ request. asked_of (name.now, rows_of (found_of found.now)) ≡ asked_as request) }
+    ensures { IfOk result
+        (λ request. asked_of (name.now, rows_of (found_of found.now)) ≡ asked_as request) }
 {
     match name {
         "gen" => Ok(Request::Gen(print_words_of(found, "SPEC"))),
@@ -80,7 +87,8 @@ fn further_request_of<'a>(
     found: &ArgMatches<'a>,
 ) -> Result<Request<'a>, AllocError>
     requires { is_some (further_of (name.now, rows_of (found_of found.now))) ≡ true }
-    ensures { IfOk result (λ request. further_of (name.now, rows_of (found_of found.now)) ≡ asked_as request) }
+    ensures { IfOk result
+        (λ request. further_of (name.now, rows_of (found_of found.now)) ≡ asked_as request) }
 {
     match name {
         "check" => Ok(Request::Check(check_words_of(alloc, found)?)),
@@ -155,7 +163,8 @@ fn list_request_of<'a>(
     workers: u8,
 ) -> Result<ListRequest<'a>, AllocError>
     requires { workers ≤ max_workers }
-    ensures { IfOk result (λ request. plain_order request ≡ request_in rules.now workers (rows_of (found_of found.now))) }
+    ensures { IfOk result (λ request.
+        plain_order request ≡ request_in rules.now workers (rows_of (found_of found.now))) }
 {
     Ok(ListRequest {
         workers: workers_of(found, workers),
@@ -169,7 +178,8 @@ fn list_request_of<'a>(
 
 // Returns the value of an option, if it is given.
 fn value_of<'a>(found: &ArgMatches<'a>, id: &str) -> Option<&'a str>
-    ensures { option_map (λ value. value.now) result ≡ first_of id.now (rows_of (found_of found.now)) }
+    ensures { option_map (λ value. value.now) result
+        ≡ first_of id.now (rows_of (found_of found.now)) }
 {
     found.get_str(id)
 }
@@ -238,7 +248,9 @@ fn values_of<'a>(
     found: &ArgMatches<'a>,
     id: &str,
 ) -> Result<Vec<&'a str>, AllocError>
-    ensures { IfOk result (λ values. map (λ value. value.now) values.items ≡ values_in id.now (rows_of (found_of found.now))) }
+    ensures { IfOk result (λ values.
+        map (λ value. value.now) values.items
+        ≡ values_in id.now (rows_of (found_of found.now))) }
 {
     match found.get_strs(id) {
         Some(names) => Vec::from_slice(alloc, names),

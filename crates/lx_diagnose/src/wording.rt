@@ -68,7 +68,8 @@ fn push_printed(text: &mut Vec<u8>, bytes: &[u8]) -> Result<(), AllocError>
 // Appends a name. Of a name longer than `most`, only the first bytes are shown.
 #[tactic(auto, unfolding(crate::specs::Printed::shown_name))]
 fn push_name(text: &mut Vec<u8>, name: &[u8], most: usize) -> Result<(), AllocError>
-    ensures value { OnOk result (text.new.items ≡ text.old.items ++ specs.shown_name most name.now) }
+    ensures value { OnOk result
+        (text.new.items ≡ text.old.items ++ specs.shown_name most name.now) }
     ensures printed { OnOk result (ArePrinted text.old.items → ArePrinted text.new.items) }
 {
     if name.len() <= most {
@@ -89,7 +90,9 @@ fn push_line(text: &mut Vec<u8>, line: u32) -> Result<(), AllocError>
 // Appends a byte of a phrase, or the part that replaces it.
 #[tactic(auto, unfolding(crate::specs::Printed::filling))]
 fn push_filled(text: &mut Vec<u8>, byte: u8, fillings: &Fillings) -> Result<(), AllocError>
-    ensures value { OnOk result (text.new.items ≡ text.old.items ++ specs.filling fillings.now.name.now fillings.now.other.now fillings.now.line byte) }
+    ensures value { OnOk result (text.new.items ≡ text.old.items
+        ++ specs.filling fillings.now.name.now fillings.now.other.now fillings.now.line
+        byte) }
     ensures printed { OnOk result (ArePrinted text.old.items → ArePrinted text.new.items) }
 {
     if byte == b'@' {
@@ -104,7 +107,9 @@ fn push_filled(text: &mut Vec<u8>, byte: u8, fillings: &Fillings) -> Result<(), 
 }
 
 fn push_phrase(text: &mut Vec<u8>, phrase: &[u8], fillings: &Fillings) -> Result<(), AllocError>
-    ensures value { OnOk result (text.new.items ≡ text.old.items ++ specs.filled fillings.now.name.now fillings.now.other.now fillings.now.line phrase.now) }
+    ensures value { OnOk result (text.new.items ≡ text.old.items
+        ++ specs.filled fillings.now.name.now fillings.now.other.now fillings.now.line
+        phrase.now) }
     ensures printed { OnOk result (ArePrinted text.old.items → ArePrinted text.new.items) }
 {
     for byte in phrase {
@@ -125,7 +130,10 @@ pub fn printed(alloc: Global, bytes: &[u8]) -> Result<Vec<u8>, AllocError>
 
 /// Fills a phrase.
 pub fn filled(alloc: Global, phrase: &[u8], fillings: &Fillings) -> Result<Vec<u8>, AllocError>
-    ensures value { IfOk result (λ words. words.items ≡ specs.filled fillings.now.name.now fillings.now.other.now fillings.now.line phrase.now) }
+    ensures value { IfOk result (λ words.
+        words.items
+        ≡ specs.filled fillings.now.name.now fillings.now.other.now fillings.now.line
+        phrase.now) }
     ensures printed { IfOk result (λ words. ArePrinted words.items) }
 {
     let mut words = Vec::new(alloc);

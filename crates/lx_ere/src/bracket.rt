@@ -83,7 +83,8 @@ fn marked_byte_at(mark: u8, text: &[u8]) -> Option<(u8, &[u8])>
 
 /// Reads the point that begins with this byte, which isn't a backslash.
 fn bare_point_at(position: BracketPosition, c: u8, rest: &[u8]) -> Option<(u8, &[u8])>
-    ensures { option_map (λ f. (f.0, f.1.now)) result ≡ bare_point_at (position_of position) c rest.now }
+    ensures { option_map (λ f. (f.0, f.1.now)) result
+        ≡ bare_point_at (position_of position) c rest.now }
 {
     if c == b']' {
         if is_inside(position) {
@@ -189,7 +190,8 @@ fn class_at(text: &[u8]) -> Option<(Member, &[u8])>
 
 /// Reads the member at the start. Returns it with the text after it.
 fn member_at(position: BracketPosition, text: &[u8]) -> Option<(Member, &[u8])>
-    ensures { option_map (λ f. (ranges_of f.0, f.1.now)) result ≡ member_at (position_of position) text.now }
+    ensures { option_map (λ f. (ranges_of f.0, f.1.now)) result
+        ≡ member_at (position_of position) text.now }
 {
     if begins_pair(b'[', b':', text) {
         class_at(skip(2, text))
@@ -204,7 +206,8 @@ fn member_at(position: BracketPosition, text: &[u8]) -> Option<(Member, &[u8])>
 
 /// Adds the bytes of a member.
 fn insert_member(set: &mut ByteSet, member: Member)
-    ensures { (test : ℕ → Bool) → set.old ≡ bytes_where test → set.new ≡ bytes_where (λ b. in_ranges (ranges_of member) b || test b) }
+    ensures { (test : ℕ → Bool) → set.old ≡ bytes_where test
+        → set.new ≡ bytes_where (λ b. in_ranges (ranges_of member) b || test b) }
 {
     match member {
         Member::Range(first, last) => set.insert_range(first, last),
@@ -230,7 +233,8 @@ fn members_behind(mut set: ByteSet, text: &[u8]) -> Option<(ByteSet, &[u8])>
 
 /// Reads the members up to the closing bracket. Returns their set with the text after it.
 fn members_at(position: BracketPosition, text: &[u8]) -> Option<(ByteSet, &[u8])>
-    ensures { option_map (λ f. (f.0, f.1.now)) result ≡ option_map members_set (members_at (position_of position) text.now) }
+    ensures { option_map (λ f. (f.0, f.1.now)) result
+        ≡ option_map members_set (members_at (position_of position) text.now) }
 {
     let Some((first, rest)) = member_at(position, text) else {
         return None;

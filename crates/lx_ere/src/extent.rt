@@ -50,7 +50,8 @@ fn behind_mark(mark: u8, text: &[u8]) -> &[u8]
 
 /// Returns the mark of `[:`, `[.` or `[=`, if one of them begins with this byte.
 fn inner_mark(first: u8, behind: &[u8]) -> Option<u8>
-    ensures { MatchOption result (opens_inner first behind.now ≡ false) (λ mark. IsInner mark first behind.now) }
+    ensures { MatchOption result (opens_inner first behind.now ≡ false)
+        (λ mark. IsInner mark first behind.now) }
 {
     match behind {
         [mark, ..] if first == b'[' && (*mark == b':' || *mark == b'.' || *mark == b'=') => Some(

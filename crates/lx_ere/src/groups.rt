@@ -59,7 +59,8 @@ fn whole(
     branch: Option<Expr>,
     unit: Option<Expr>,
 ) -> Result<Option<Expr>, AllocError>
-    ensures { IfOk result (λ o. option_map regex_of o ≡ whole (option_map regex_of branch) (option_map regex_of unit)) }
+    ensures { IfOk result (λ o.
+        option_map regex_of o ≡ whole (option_map regex_of branch) (option_map regex_of unit)) }
 {
     match (branch, unit) {
         (Some(branch), Some(unit)) => {
@@ -112,7 +113,9 @@ fn push(alloc: Global, frame: Frame, unit: Expr) -> Result<Frame, AllocError>
 
 /// Appends a unit to the innermost group.
 fn push_unit(alloc: Global, groups: Groups, unit: Expr) -> Result<Groups, AllocError>
-    ensures { IfOk result (λ next. groups_of next ≡ stack (push (groups_of groups).top (regex_of unit)) (groups_of groups).below) }
+    ensures { IfOk result (λ next.
+        groups_of next
+        ≡ stack (push (groups_of groups).top (regex_of unit)) (groups_of groups).below) }
 {
     let Groups { top, below } = groups;
     let top = push(alloc, top, unit)?;
@@ -171,7 +174,8 @@ fn repeat_branch(
     low: u8,
     high: Option<u8>,
 ) -> Result<Option<Groups>, AllocError>
-    ensures { IfOk result (λ o. option_map groups_of o ≡ step (interval low high) (groups_of groups)) }
+    ensures { IfOk result
+        (λ o. option_map groups_of o ≡ step (interval low high) (groups_of groups)) }
 {
     let Groups { top, below } = groups;
     let Frame {
@@ -249,7 +253,8 @@ pub(crate) fn step(
     groups: Groups,
     lexeme: Lexeme,
 ) -> Result<Option<Groups>, AllocError>
-    ensures { IfOk result (λ o. option_map groups_of o ≡ step (lexeme_of lexeme) (groups_of groups)) }
+    ensures { IfOk result
+        (λ o. option_map groups_of o ≡ step (lexeme_of lexeme) (groups_of groups)) }
 {
     match lexeme {
         Lexeme::Set(set) => Ok(Some(push_unit(alloc, groups, Expr::Set(set))?)),
@@ -270,7 +275,8 @@ pub(crate) fn step(
 
 /// Returns the alternation that was read, if no group is open and something follows the last bar.
 pub(crate) fn finish(alloc: Global, groups: Groups) -> Result<Option<Expr>, AllocError>
-    ensures { IfOk result (λ o. option_map regex_of o ≡ finish (groups_of groups).top (groups_of groups).below) }
+    ensures { IfOk result
+        (λ o. option_map regex_of o ≡ finish (groups_of groups).top (groups_of groups).below) }
 {
     let Groups { top, below } = groups;
     if below.is_empty() {

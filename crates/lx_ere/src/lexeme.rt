@@ -92,7 +92,8 @@ fn quoted_byte_at(text: &[u8]) -> Option<(u8, &[u8])>
 
 /// Reads the bytes of a quoted string up to its closing quote. Returns them with the text after it.
 fn quoted_bytes_at(alloc: Global, text: &[u8]) -> Result<Option<(Vec<u8>, &[u8])>, AllocError>
-    ensures { IfOk result (λ o. option_map (λ f. (f.0.items, f.1.now)) o ≡ all_items_at quoted_byte_at 34 text.now) }
+    ensures { IfOk result
+        (λ o. option_map (λ f. (f.0.items, f.1.now)) o ≡ all_items_at quoted_byte_at 34 text.now) }
 {
     let mut bytes = Vec::new(alloc);
     let mut rest = text;

@@ -23,7 +23,8 @@ const MAX_PATTERN_BYTES: usize = 1024;
 /// Reads the alternation at the start. Returns it with the text after its last spelling.
 fn read_alternation(alloc: Global, text: &[u8]) -> Result<(Expr, &[u8]), EreFault>
     ensures reading { IfOk result (λ f. Reads text.now (regex_of f.0) f.1.now) }
-    ensures refused { result ≡ Err EreFault.NoReading → (tree : Regex) (ending : List ℕ) → Reads text.now tree ending → ⊥ }
+    ensures refused { result ≡ Err EreFault.NoReading → (tree : Regex) (ending : List ℕ)
+        → Reads text.now tree ending → ⊥ }
 {
     let mut groups = no_groups(alloc);
     let mut rest = text;
@@ -96,7 +97,8 @@ pub fn read_pattern(alloc: Global, text: &[u8]) -> Result<Pattern, EreFault>
 /// The text has at most 1,024 bytes. Err: [`EreFault::NoReading`] exactly if the text is unreadable, [`EreFault::Memory`] if an allocation failed.
 pub fn read_substitute(alloc: Global, text: &[u8]) -> Result<Expr, EreFault>
     ensures reading { IfOk result (λ e. IsSubstitute text.now (regex_of e)) }
-    ensures refused { result ≡ Err EreFault.NoReading → (tree : Regex) → IsSubstitute text.now tree → ⊥ }
+    ensures refused { result ≡ Err EreFault.NoReading → (tree : Regex) → IsSubstitute text.now tree
+        → ⊥ }
 {
     if text.len() > MAX_PATTERN_BYTES {
         return Err(EreFault::NoReading);
@@ -111,7 +113,8 @@ pub fn read_substitute(alloc: Global, text: &[u8]) -> Result<Expr, EreFault>
 
 /// States a law: the start of a text is at most one spelling of a lexeme.
 pub fn one_spelling()
-    ensures { (t u : List ℕ) (l m : Lexeme) (v w : List ℕ) → Spells t l v → Spells u m w → t ++ v ≡ u ++ w → (t ≡ u) × (l ≡ m) × (v ≡ w) }
+    ensures { (t u : List ℕ) (l m : Lexeme) (v w : List ℕ) → Spells t l v → Spells u m w
+        → t ++ v ≡ u ++ w → (t ≡ u) × (l ≡ m) × (v ≡ w) }
 {}
 
 /// States a law: a text has at most one reading as a pattern.
@@ -126,14 +129,18 @@ pub fn one_substitute()
 
 /// States a law: a text has a reading as a pattern, or it has none, and it is decidable which. The same holds for substitutes.
 pub fn some_reading()
-    ensures patterns { (text : List ℕ) → ((r : Reading) × IsPattern text r) ⊎ ((r : Reading) → IsPattern text r → ⊥) }
-    ensures substitutes { (text : List ℕ) → ((tree : Regex) × IsSubstitute text tree) ⊎ ((tree : Regex) → IsSubstitute text tree → ⊥) }
+    ensures patterns { (text : List ℕ)
+        → ((r : Reading) × IsPattern text r) ⊎ ((r : Reading) → IsPattern text r → ⊥) }
+    ensures substitutes { (text : List ℕ) → ((tree : Regex) × IsSubstitute text tree)
+        ⊎ ((tree : Regex) → IsSubstitute text tree → ⊥) }
 {}
 
 /// States a law: in each interval of a reading, the low bound is at most the high one (XBD 9.4.6).
 pub fn bounds_are_ordered()
-    ensures patterns { (text : List ℕ) (r : Reading) → IsPattern text r → IsTrue (has_ordered_bounds r.tree) }
-    ensures substitutes { (text : List ℕ) (tree : Regex) → IsSubstitute text tree → IsTrue (has_ordered_bounds tree) }
+    ensures patterns { (text : List ℕ) (r : Reading) → IsPattern text r
+        → IsTrue (has_ordered_bounds r.tree) }
+    ensures substitutes { (text : List ℕ) (tree : Regex) → IsSubstitute text tree
+        → IsTrue (has_ordered_bounds tree) }
 {}
 
 /// States a law: a text with a reading as a pattern has no space or tab outside quotes, brackets and escapes. So `pattern_end` is its end.

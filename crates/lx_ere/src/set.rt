@@ -86,7 +86,8 @@ impl ByteSet {
 
     /// Adds a byte.
     pub(crate) fn insert(&mut self, byte: u8)
-        ensures { (test : ℕ → Bool) → self.old ≡ bytes_where test → self.new ≡ bytes_where (λ b. is_between byte byte b || test b) }
+        ensures { (test : ℕ → Bool) → self.old ≡ bytes_where test
+            → self.new ≡ bytes_where (λ b. is_between byte byte b || test b) }
     {
         let place = byte as usize / 64;
         self.words[place] |= 1 << (byte % 64);
@@ -94,7 +95,8 @@ impl ByteSet {
 
     /// Adds the bytes from the first to the last.
     pub(crate) fn insert_range(&mut self, first: u8, last: u8)
-        ensures { (test : ℕ → Bool) → self.old ≡ bytes_where test → self.new ≡ bytes_where (λ b. is_between first last b || test b) }
+        ensures { (test : ℕ → Bool) → self.old ≡ bytes_where test
+            → self.new ≡ bytes_where (λ b. is_between first last b || test b) }
     {
         for byte in first..=last {
             self.insert(byte);
@@ -103,7 +105,8 @@ impl ByteSet {
 
     /// Adds the bytes of the ranges, each from its first byte to its last.
     pub(crate) fn insert_ranges(&mut self, ranges: &[(u8, u8)])
-        ensures { (test : ℕ → Bool) → self.old ≡ bytes_where test → self.new ≡ bytes_where (λ b. in_ranges ranges.now b || test b) }
+        ensures { (test : ℕ → Bool) → self.old ≡ bytes_where test
+            → self.new ≡ bytes_where (λ b. in_ranges ranges.now b || test b) }
     {
         for range in ranges {
             self.insert_range(range.0, range.1);
@@ -112,7 +115,8 @@ impl ByteSet {
 
     /// Returns the bytes that aren't in the set.
     pub(crate) fn complement(&self) -> ByteSet
-        ensures { (test : ℕ → Bool) → self.now ≡ bytes_where test → result ≡ bytes_where (λ b. not (test b)) }
+        ensures { (test : ℕ → Bool) → self.now ≡ bytes_where test
+            → result ≡ bytes_where (λ b. not (test b)) }
     {
         let first = self.words[0];
         let second = self.words[1];

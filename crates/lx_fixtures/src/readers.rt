@@ -17,7 +17,8 @@ pub fn take_first<R: Reader>(
     requires counts { R.counts reader.old ≡ replicate (files_of plan.now) 0 }
     requires faults { R.fault_count reader.old < 9 }
     ensures plan { R.plan reader.new ≡ plan.now }
-    ensures counts { IfOk result (λ taken. OnErr taken (R.counts reader.new ≡ replicate (files_of plan.now) 0)) }
+    ensures counts { IfOk result
+        (λ taken. OnErr taken (R.counts reader.new ≡ replicate (files_of plan.now) 0)) }
     ensures faults { R.fault_count reader.new ≤ R.fault_count reader.old + 1 }
 {
     let mut cutter = Cutter::new(alloc, plan, 0);

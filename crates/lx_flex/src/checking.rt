@@ -69,7 +69,8 @@ fn same_numbers(one: &[u16], other: &[u16]) -> bool
 }
 
 fn same_lists(one: &Option<Vec<u16>>, other: &Option<Vec<u16>>) -> bool
-    ensures { result ≡ true → option_map (λ v. v.items) one.now ≡ option_map (λ v. v.items) other.now }
+    ensures { result ≡ true
+        → option_map (λ v. v.items) one.now ≡ option_map (λ v. v.items) other.now }
 {
     match one {
         None => other.is_none(),
@@ -123,7 +124,8 @@ fn is_this_definition(definition: &ImportedDefinition, read: &Definition) -> boo
 }
 
 fn is_definition(definitions: &[ImportedDefinition], read: &Definition) -> bool
-    ensures { result ≡ true → IsDefinition (map definition_of definitions.now) (definition_view read.now) }
+    ensures { result ≡ true
+        → IsDefinition (map definition_of definitions.now) (definition_view read.now) }
 {
     let mut left = definitions;
     for _ in definitions {
@@ -139,7 +141,8 @@ fn is_definition(definitions: &[ImportedDefinition], read: &Definition) -> bool
 }
 
 fn are_definitions(definitions: &[ImportedDefinition], read: &[Definition]) -> bool
-    ensures { result ≡ true → AreDefinitions (map definition_of definitions.now) (map definition_view read.now) }
+    ensures { result ≡ true
+        → AreDefinitions (map definition_of definitions.now) (map definition_view read.now) }
 {
     let mut right = read;
     for _ in read {
@@ -162,7 +165,8 @@ pub(crate) fn check(
     definitions: &[ImportedDefinition],
     rules: &[ImportedRule],
 ) -> Result<(), CheckFault>
-    ensures { OnOk result (IsImported (map condition_view conditions.now) (map definition_of definitions.now) (map rule_of rules.now) text.now) }
+    ensures { OnOk result (IsImported (map condition_view conditions.now)
+        (map definition_of definitions.now) (map rule_of rules.now) text.now) }
 {
     let spec = match read_spec(alloc, text) {
         Ok(spec) => spec,

@@ -151,7 +151,10 @@ fn refused(reports: Reports) -> Fault {
 
 /// Returns the draft as an imported file, if lx reads it as it was read from the file.
 fn checked(alloc: Global, draft: Draft, reports: Reports) -> Result<Imported, Fault>
-    ensures { IfOk result (λ i. IsImported (map condition_view i.conditions.items) (map definition_of i.definitions.items) (map rule_of i.rules.items) i.specification.items) }
+    ensures { IfOk result (λ i.
+        IsImported (map condition_view i.conditions.items)
+        (map definition_of i.definitions.items) (map rule_of i.rules.items)
+        i.specification.items) }
 {
     let outcome = check(
         alloc,
@@ -193,7 +196,10 @@ fn checked(alloc: Global, draft: Draft, reports: Reports) -> Result<Imported, Fa
 /// Err: reports, at least one of them fatal, if something can't be imported. With `lossy` it is left out, if there is a replacement, and only
 /// reported.
 pub fn import(alloc: Global, text: &[u8], options: Options) -> Result<Imported, Fault>
-    ensures { IfOk result (λ i. IsImported (map condition_view i.conditions.items) (map definition_of i.definitions.items) (map rule_of i.rules.items) i.specification.items) }
+    ensures { IfOk result (λ i.
+        IsImported (map condition_view i.conditions.items)
+        (map definition_of i.definitions.items) (map rule_of i.rules.items)
+        i.specification.items) }
 {
     let mut reports = Reports {
         list: Vec::new(alloc),

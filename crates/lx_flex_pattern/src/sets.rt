@@ -53,7 +53,8 @@ pub fn set_has(excluded: bool, fold: bool, members: &[Member], byte: u8) -> bool
 
 // Returns true if the byte is in both sets, or in neither.
 fn agrees(found: &ByteSet, excluded: bool, fold: bool, members: &[Member], byte: u8) -> bool
-    ensures { result ≡ true → set.contains found.now byte ≡ specs.set_has excluded fold members.now byte }
+    ensures { result ≡ true
+        → set.contains found.now byte ≡ specs.set_has excluded fold members.now byte }
 {
     found.has(byte) == set_has(excluded, fold, members, byte)
 }

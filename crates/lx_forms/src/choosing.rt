@@ -56,7 +56,8 @@ fn is_number_among(words: &[&str], number: u32) -> bool
 
 // Appends the numbers that steps return.
 fn push_numbers(numbers: &mut Vec<u32>, steps: &[Step]) -> Result<(), AllocError>
-    ensures { OnOk result (numbers.new.items ≡ numbers.old.items ++ flat_map number_of_step steps.now) }
+    ensures { OnOk result
+        (numbers.new.items ≡ numbers.old.items ++ flat_map number_of_step steps.now) }
 {
     for step in steps {
         if let Step::Return(Kind::Number(number)) = step {
@@ -117,8 +118,10 @@ fn judge_words<'a>(
     words: &[&'a str],
 ) -> Result<(), ChoiceFault<'a>>
     requires { numbers.now ≡ numbers_of tables.now }
-    ensures ok { OnOk result (All (λ word. is_kind_word tables.now word ≡ true) (map (λ word. word.now) words.now)) }
-    ensures err { IfErr result (λ fault. IsUnknownAmong tables.now (map (λ word. word.now) words.now) fault) }
+    ensures ok { OnOk result
+        (All (λ word. is_kind_word tables.now word ≡ true) (map (λ word. word.now) words.now)) }
+    ensures err { IfErr result
+        (λ fault. IsUnknownAmong tables.now (map (λ word. word.now) words.now) fault) }
 {
     for word in words {
         if !is_kind_word(tables, numbers, word) {
@@ -130,7 +133,8 @@ fn judge_words<'a>(
 
 // Makes a list with an entry for each named kind: true if its name is one of these words.
 fn names_among(alloc: Global, tables: &Tables, words: &[&str]) -> Result<Vec<bool>, AllocError>
-    ensures { IfOk result (λ names. names.items ≡ map (is_one_of (map (λ word. word.now) words.now)) tables.now.kinds) }
+    ensures { IfOk result (λ names.
+        names.items ≡ map (is_one_of (map (λ word. word.now) words.now)) tables.now.kinds) }
 {
     let mut names = Vec::new(alloc);
     for kind in 0..tables.kinds() {
@@ -141,7 +145,9 @@ fn names_among(alloc: Global, tables: &Tables, words: &[&str]) -> Result<Vec<boo
 
 // Keeps the numbers that are among these words.
 fn numbers_among(alloc: Global, numbers: &[u32], words: &[&str]) -> Result<Vec<u32>, AllocError>
-    ensures { IfOk result (λ among. among.items ≡ filter (λ n. is_one_of (map (λ word. word.now) words.now) (decimal n)) numbers.now) }
+    ensures { IfOk result (λ among.
+        among.items ≡ filter (λ n. is_one_of (map (λ word. word.now) words.now) (decimal n))
+        numbers.now) }
 {
     let mut among = Vec::new(alloc);
     for number in numbers {
@@ -154,7 +160,8 @@ fn numbers_among(alloc: Global, numbers: &[u32], words: &[&str]) -> Result<Vec<u
 
 // Reads the words of a list. There is at least one.
 fn words_of<'a>(alloc: Global, text: &'a str) -> Result<Vec<&'a str>, ChoiceFault<'a>>
-    ensures ok { IfOk result (λ words. IsListOf 44 text.now (map (λ word. word.now) words.items) × (words.items ≢ [])) }
+    ensures ok { IfOk result
+        (λ words. IsListOf 44 text.now (map (λ word. word.now) words.items) × (words.items ≢ [])) }
     ensures err { IfErr result (λ fault. IsNoWords text.now fault) }
 {
     let mut words = Vec::new(alloc);

@@ -42,7 +42,8 @@ impl Draft {
     #[inline(always)]
     pub(crate) fn new() -> Draft
         ensures empty { result.len ≡ 0 }
-        ensures prefixes { (form : PlainForm) (plan : Planned) (file : ℕ) → ArePrefixesOf form plan file result.prefixes }
+        ensures prefixes { (form : PlainForm) (plan : Planned) (file : ℕ)
+            → ArePrefixesOf form plan file result.prefixes }
     {
         Draft {
             lines: [0; DRAFT],
@@ -76,8 +77,11 @@ impl Draft {
         requires file { file < files_of plan.now }
         requires item { IsItemOf (kinds_of plan.now) (bytes_of plan.now file) item.now }
         requires prefixes { ArePrefixesOf (form_view form.now) plan.now file self.old.prefixes }
-        ensures added { result ≡ true → take self.new.len self.new.lines ≡ take self.old.len self.old.lines ++ json_line (form_view form.now) plan.now file item.now }
-        ensures not { result ≡ false → take self.new.len self.new.lines ≡ take self.old.len self.old.lines }
+        ensures added { result ≡ true
+            → take self.new.len self.new.lines ≡ take self.old.len self.old.lines
+            ++ json_line (form_view form.now) plan.now file item.now }
+        ensures not { result ≡ false
+            → take self.new.len self.new.lines ≡ take self.old.len self.old.lines }
         ensures prefixes { self.new.prefixes ≡ self.old.prefixes }
     {
         let numbers = numbers_of(item);
@@ -100,7 +104,8 @@ impl Draft {
     /// Moves the lines to a block.
     #[inline(never)]
     pub(crate) fn move_to(&mut self, block: &mut Vec<u8>) -> Result<(), AllocError>
-        ensures moved { OnOk result (block.new.items ≡ block.old.items ++ take self.old.len self.old.lines) }
+        ensures moved { OnOk result
+            (block.new.items ≡ block.old.items ++ take self.old.len self.old.lines) }
         ensures empty { OnOk result (self.new.len ≡ 0) }
         ensures prefixes { self.new.prefixes ≡ self.old.prefixes }
     {
@@ -112,7 +117,8 @@ impl Draft {
     // Makes room for one more line.
     #[inline(always)]
     fn make_room(&mut self, block: &mut Vec<u8>) -> Result<(), AllocError>
-        ensures same { OnOk result (block.new.items ++ take self.new.len self.new.lines ≡ block.old.items ++ take self.old.len self.old.lines) }
+        ensures same { OnOk result (block.new.items ++ take self.new.len self.new.lines
+            ≡ block.old.items ++ take self.old.len self.old.lines) }
         ensures room { OnOk result (self.new.len + 800 ≤ 2048) }
         ensures prefixes { self.new.prefixes ≡ self.old.prefixes }
     {
@@ -136,7 +142,9 @@ impl Draft {
         requires file { file < files_of plan.now }
         requires item { IsItemOf (kinds_of plan.now) (bytes_of plan.now file) item.now }
         requires prefixes { ArePrefixesOf (form_view form.now) plan.now file self.old.prefixes }
-        ensures pushed { OnOk result (block.new.items ++ take self.new.len self.new.lines ≡ (block.old.items ++ take self.old.len self.old.lines) ++ json_line (form_view form.now) plan.now file item.now) }
+        ensures pushed { OnOk result (block.new.items ++ take self.new.len self.new.lines
+            ≡ (block.old.items ++ take self.old.len self.old.lines)
+            ++ json_line (form_view form.now) plan.now file item.now) }
         ensures prefixes { ArePrefixesOf (form_view form.now) plan.now file self.new.prefixes }
     {
         self.move_to(block)?;
@@ -158,7 +166,9 @@ impl Draft {
         requires file { file < files_of plan.now }
         requires item { IsItemOf (kinds_of plan.now) (bytes_of plan.now file) item.now }
         requires prefixes { ArePrefixesOf (form_view form.now) plan.now file self.old.prefixes }
-        ensures pushed { OnOk result (block.new.items ++ take self.new.len self.new.lines ≡ (block.old.items ++ take self.old.len self.old.lines) ++ json_line (form_view form.now) plan.now file item.now) }
+        ensures pushed { OnOk result (block.new.items ++ take self.new.len self.new.lines
+            ≡ (block.old.items ++ take self.old.len self.old.lines)
+            ++ json_line (form_view form.now) plan.now file item.now) }
         ensures prefixes { ArePrefixesOf (form_view form.now) plan.now file self.new.prefixes }
     {
         self.make_room(block)?;
@@ -182,7 +192,9 @@ impl Draft {
         requires file { file < files_of plan.now }
         requires item { IsItemOf (kinds_of plan.now) (bytes_of plan.now file) item.now }
         requires prefixes { ArePrefixesOf (form_view form.now) plan.now file self.old.prefixes }
-        ensures pushed { OnOk result (block.new.items ++ take self.new.len self.new.lines ≡ (block.old.items ++ take self.old.len self.old.lines) ++ lines_in (form_view form.now) plan.now file (item.now ∷ [])) }
+        ensures pushed { OnOk result (block.new.items ++ take self.new.len self.new.lines
+            ≡ (block.old.items ++ take self.old.len self.old.lines)
+            ++ lines_in (form_view form.now) plan.now file (item.now ∷ [])) }
         ensures prefixes { ArePrefixesOf (form_view form.now) plan.now file self.new.prefixes }
     {
         if !form.passes(item) {
@@ -204,7 +216,8 @@ pub(crate) fn push_json_lines(
     requires format { form.now.format ≡ Format.Json }
     requires file { file < files_of plan.now }
     requires items { All (IsItemOf (kinds_of plan.now) (bytes_of plan.now file)) items.now }
-    ensures { OnOk result (block.new.items ≡ block.old.items ++ lines_in (form_view form.now) plan.now file items.now) }
+    ensures { OnOk result (block.new.items
+        ≡ block.old.items ++ lines_in (form_view form.now) plan.now file items.now) }
 {
     let mut draft = Draft::new();
     for item in items {

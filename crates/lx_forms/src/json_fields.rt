@@ -46,7 +46,8 @@ pub(crate) fn place_numbers(
     requires start { IsNear start.now.base numbers.start }
     requires len { numbers.len ≤ 96 }
     requires room { at + 64 ≤ length buf.old }
-    ensures placed { Placed buf.old buf.new at (numbers_text numbers.line numbers.start numbers.len) result }
+    ensures placed { Placed buf.old buf.new at (numbers_text numbers.line numbers.start numbers.len)
+        result }
     ensures short { result ≤ at + 54 }
 {
     let at = place_near(buf, at, line, numbers.line);
@@ -67,7 +68,8 @@ pub(crate) fn place_text(
 ) -> usize
     requires text { numbers.start + numbers.len + 16 ≤ length bytes.now }
     requires room { at + 6 * numbers.len + 26 ≤ length buf.old }
-    ensures placed { Placed buf.old buf.new at (string_member is_printed (take numbers.len (drop numbers.start bytes.now))) result }
+    ensures placed { Placed buf.old buf.new at
+        (string_member is_printed (take numbers.len (drop numbers.start bytes.now))) result }
     ensures short { result ≤ at + 6 * numbers.len + 10 }
 {
     if !is_printed {

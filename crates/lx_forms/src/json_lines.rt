@@ -79,7 +79,8 @@ fn push_bytes_member(
     hex_name: &[u8],
     bytes: &[u8],
 ) -> Result<(), AllocError>
-    ensures { OnOk result (block.new.items ≡ block.old.items ++ bytes_member name.now hex_name.now bytes.now) }
+    ensures { OnOk result
+        (block.new.items ≡ block.old.items ++ bytes_member name.now hex_name.now bytes.now) }
 {
     if is_text(bytes) {
         block.extend_from_slice(name)?;
@@ -95,7 +96,8 @@ fn push_bytes_member(
 
 // Appends the name of a file, if names are printed.
 fn push_name(block: &mut Vec<u8>, form: &Form<'_>, file: u32) -> Result<(), AllocError>
-    ensures { OnOk result (block.new.items ≡ block.old.items ++ name_member (form_view form.now) file) }
+    ensures { OnOk result
+        (block.new.items ≡ block.old.items ++ name_member (form_view form.now) file) }
 {
     match form.names {
         Some(names) => push_bytes_member(
@@ -110,7 +112,8 @@ fn push_name(block: &mut Vec<u8>, form: &Form<'_>, file: u32) -> Result<(), Allo
 
 // Appends the number of a file, and its name.
 fn push_file(block: &mut Vec<u8>, form: &Form<'_>, file: u32) -> Result<(), AllocError>
-    ensures { OnOk result (block.new.items ≡ block.old.items ++ file_members (form_view form.now) file) }
+    ensures { OnOk result
+        (block.new.items ≡ block.old.items ++ file_members (form_view form.now) file) }
 {
     block.extend_from_slice(b"{\"file\":")?;
     push_number(block, form.number_of(file))?;
@@ -153,7 +156,8 @@ pub(crate) fn push_prefix(
     kind: Option<Kind>,
 ) -> Result<(), AllocError>
     requires { IsKindOf plan.now kind }
-    ensures { OnOk result (block.new.items ≡ block.old.items ++ json_prefix (form_view form.now) plan.now file kind) }
+    ensures { OnOk result
+        (block.new.items ≡ block.old.items ++ json_prefix (form_view form.now) plan.now file kind) }
 {
     push_file(block, form, file)?;
     push_sort(block, plan, kind)?;
@@ -163,7 +167,8 @@ pub(crate) fn push_prefix(
 
 // Appends line, start and length.
 fn push_numbers(block: &mut Vec<u8>, numbers: Numbers) -> Result<(), AllocError>
-    ensures { OnOk result (block.new.items ≡ block.old.items ++ numbers_text numbers.line numbers.start numbers.len) }
+    ensures { OnOk result
+        (block.new.items ≡ block.old.items ++ numbers_text numbers.line numbers.start numbers.len) }
 {
     push_number(block, numbers.line)?;
     block.extend_from_slice(b",\"start\":")?;
@@ -175,7 +180,8 @@ fn push_numbers(block: &mut Vec<u8>, numbers: Numbers) -> Result<(), AllocError>
 
 // Appends a text, if texts are printed.
 fn push_text(block: &mut Vec<u8>, form: &Form<'_>, text: &[u8]) -> Result<(), AllocError>
-    ensures { OnOk result (block.new.items ≡ block.old.items ++ text_member (form_view form.now) text.now) }
+    ensures { OnOk result
+        (block.new.items ≡ block.old.items ++ text_member (form_view form.now) text.now) }
 {
     if !form.text {
         return Ok(());
@@ -193,7 +199,8 @@ pub(crate) fn push_rest(
 ) -> Result<(), AllocError>
     requires file { file < files_of plan.now }
     requires item { LiesIn (bytes_of plan.now file) item.now }
-    ensures { OnOk result (block.new.items ≡ block.old.items ++ rest_of_line (form_view form.now) plan.now file item.now) }
+    ensures { OnOk result (block.new.items
+        ≡ block.old.items ++ rest_of_line (form_view form.now) plan.now file item.now) }
 {
     push_numbers(block, numbers_of(item))?;
     push_text(block, form, text_in(plan, file, item))?;
@@ -211,7 +218,8 @@ pub(crate) fn push_json_line(
 ) -> Result<(), AllocError>
     requires file { file < files_of plan.now }
     requires item { IsItemOf (kinds_of plan.now) (bytes_of plan.now file) item.now }
-    ensures { OnOk result (block.new.items ≡ block.old.items ++ json_line (form_view form.now) plan.now file item.now) }
+    ensures { OnOk result (block.new.items
+        ≡ block.old.items ++ json_line (form_view form.now) plan.now file item.now) }
 {
     push_prefix(block, form, plan, file, kind_of(item))?;
     push_rest(block, form, plan, file, item)?;
@@ -225,7 +233,8 @@ pub(crate) fn push_json_cut_line(
     form: &Form<'_>,
     file: u32,
 ) -> Result<(), AllocError>
-    ensures { OnOk result (block.new.items ≡ block.old.items ++ json_cut_line (form_view form.now) file) }
+    ensures { OnOk result
+        (block.new.items ≡ block.old.items ++ json_cut_line (form_view form.now) file) }
 {
     push_file(block, form, file)?;
     block.extend_from_slice(b",\"cut\":true}\n")?;

@@ -62,7 +62,9 @@ impl Prefix {
     pub(crate) fn place(&self, buf: &mut [u8], at: usize) -> Option<usize>
         requires room { at + 128 ≤ length buf.old }
         requires short { self.now.len ≤ 128 }
-        ensures placed { MatchOption result (buf.new ≡ buf.old) (λ end. (0 < self.now.len) × Placed buf.old buf.new at (take self.now.len self.now.text) end) }
+        ensures placed { MatchOption result (buf.new ≡ buf.old) (λ end.
+            (0 < self.now.len)
+            × Placed buf.old buf.new at (take self.now.len self.now.text) end) }
         ensures short { MatchOption result (Unit {0}) (λ end. end ≤ at + 128) }
     {
         if self.len == 0 {
@@ -116,7 +118,8 @@ impl Prefixes {
     /// Returns the prefixes of no kind. All its bytes are 0, so that it is made quickly.
     #[inline(always)]
     pub(crate) fn new() -> Prefixes
-        ensures { (form : PlainForm) (plan : Planned) (file : ℕ) → ArePrefixesOf form plan file result }
+        ensures { (form : PlainForm) (plan : Planned) (file : ℕ)
+            → ArePrefixesOf form plan file result }
     {
         let slot = Slot {
             kind: Kind::Name(0),
@@ -139,7 +142,8 @@ impl Prefixes {
     ) -> Result<(), AllocError>
         requires kind { IsKindOf plan.now kind }
         requires prefixes { ArePrefixesOf (form_view form.now) plan.now file self.old }
-        ensures pushed { OnOk result (block.new.items ≡ block.old.items ++ json_prefix (form_view form.now) plan.now file kind) }
+        ensures pushed { OnOk result (block.new.items
+            ≡ block.old.items ++ json_prefix (form_view form.now) plan.now file kind) }
         ensures prefixes { ArePrefixesOf (form_view form.now) plan.now file self.new }
     {
         let begun = block.len();

@@ -28,7 +28,8 @@ pub fn listings_join()
 pub fn words_select_by_kind()
     ensures items { (plan : Planned) (words : List (List ℕ)) (item : Item) → HasKindOf plan.table item →
         (is_selected (selected_by plan.table words) item ≡ true) ↔ Contains words (kind_text plan item) }
-    ensures all { (plan : Planned) (file : ℕ) → IsPlan plan → All (HasKindOf plan.table) (items_of plan file) }
+    ensures all { (plan : Planned) (file : ℕ) → IsPlan plan
+        → All (HasKindOf plan.table) (items_of plan file) }
     ensures lines { (form : PlainForm) (plan : Planned) (words : List (List ℕ)) (file : ℕ) → IsPlan plan → form.only ≡ Some (selected_by plan.table words) →
         lines_in form plan file (items_of plan file) ≡ flat_map (line_in form plan file) (filter (stands_by_one_of plan words) (items_of plan file)) }
 {}

@@ -28,7 +28,8 @@ fn push_line(
 ) -> Result<(), AllocError>
     requires file { file < files_of plan.now }
     requires item { IsItemOf (kinds_of plan.now) (bytes_of plan.now file) item.now }
-    ensures { OnOk result (block.new.items ≡ block.old.items ++ line_in (form_view form.now) plan.now file item.now) }
+    ensures { OnOk result
+        (block.new.items ≡ block.old.items ++ line_in (form_view form.now) plan.now file item.now) }
 {
     match form.format {
         Format::Lines => push_text_line(block, form, plan, file, item),
@@ -37,7 +38,8 @@ fn push_line(
 }
 
 fn push_cut_line(block: &mut Vec<u8>, form: &Form<'_>, file: u32) -> Result<(), AllocError>
-    ensures { OnOk result (block.new.items ≡ block.old.items ++ cut_line_in (form_view form.now) file) }
+    ensures { OnOk result
+        (block.new.items ≡ block.old.items ++ cut_line_in (form_view form.now) file) }
 {
     match form.format {
         Format::Lines => push_text_cut_line(block, form, file),
@@ -56,7 +58,8 @@ fn push_item(
 ) -> Result<(), AllocError>
     requires file { file < files_of plan.now }
     requires item { IsItemOf (kinds_of plan.now) (bytes_of plan.now file) item.now }
-    ensures { OnOk result (block.new.items ≡ block.old.items ++ lines_in (form_view form.now) plan.now file (item.now ∷ [])) }
+    ensures { OnOk result (block.new.items
+        ≡ block.old.items ++ lines_in (form_view form.now) plan.now file (item.now ∷ [])) }
 {
     if !form.passes(item) {
         return Ok(());
@@ -75,7 +78,8 @@ fn push_each(
 ) -> Result<(), AllocError>
     requires file { file < files_of plan.now }
     requires items { All (IsItemOf (kinds_of plan.now) (bytes_of plan.now file)) items.now }
-    ensures { OnOk result (block.new.items ≡ block.old.items ++ lines_in (form_view form.now) plan.now file items.now) }
+    ensures { OnOk result (block.new.items
+        ≡ block.old.items ++ lines_in (form_view form.now) plan.now file items.now) }
 {
     for item in items {
         push_item(block, form, plan, file, item)?;
@@ -93,7 +97,8 @@ fn push_lines(
 ) -> Result<(), AllocError>
     requires file { file < files_of plan.now }
     requires items { All (IsItemOf (kinds_of plan.now) (bytes_of plan.now file)) items.now }
-    ensures { OnOk result (block.new.items ≡ block.old.items ++ lines_in (form_view form.now) plan.now file items.now) }
+    ensures { OnOk result (block.new.items
+        ≡ block.old.items ++ lines_in (form_view form.now) plan.now file items.now) }
 {
     match form.format {
         Format::Json if items.len() >= MANY => push_json_lines(block, form, plan, file, items),
@@ -109,8 +114,10 @@ fn push_piece(
     piece: &Piece,
 ) -> Result<(), AllocError>
     requires file { piece.now.file < files_of plan.now }
-    requires items { All (IsItemOf (kinds_of plan.now) (bytes_of plan.now piece.now.file)) piece.now.items }
-    ensures { OnOk result (block.new.items ≡ block.old.items ++ piece_lines_in (form_view form.now) plan.now piece.now) }
+    requires items { All (IsItemOf (kinds_of plan.now) (bytes_of plan.now piece.now.file))
+        piece.now.items }
+    ensures { OnOk result (block.new.items
+        ≡ block.old.items ++ piece_lines_in (form_view form.now) plan.now piece.now) }
 {
     push_lines(block, form, plan, piece.file, piece.items.as_slice())?;
     if piece.is_cut_short() {
@@ -127,8 +134,10 @@ pub(crate) fn refill(
     piece: &Piece,
 ) -> Result<(), AllocError>
     requires file { piece.now.file < files_of plan.now }
-    requires items { All (IsItemOf (kinds_of plan.now) (bytes_of plan.now piece.now.file)) piece.now.items }
-    ensures { OnOk result (block.new.items ≡ piece_lines_in (form_view form.now) plan.now piece.now) }
+    requires items { All (IsItemOf (kinds_of plan.now) (bytes_of plan.now piece.now.file))
+        piece.now.items }
+    ensures { OnOk result
+        (block.new.items ≡ piece_lines_in (form_view form.now) plan.now piece.now) }
 {
     block.clear();
     push_piece(block, form, plan, piece)?;

@@ -44,7 +44,8 @@ impl<T: Drop> From<AllocFailed<T>> for NameListFault {
 // Splits a text at its first separator: the part before it, and the part after it if there is one.
 fn first_part(text: &[u8], separator: u8) -> (&[u8], Option<&[u8]>)
     ensures free { IsFree separator result.0.now }
-    ensures parts { AreParts separator text.now result.0.now (option_map (λ rest. rest.now) result.1) }
+    ensures parts { AreParts separator text.now result.0.now
+        (option_map (λ rest. rest.now) result.1) }
 {
     match memchr(separator, text) {
         Some(end) => (&text[..end], Some(&text[end + 1..])),
@@ -54,7 +55,8 @@ fn first_part(text: &[u8], separator: u8) -> (&[u8], Option<&[u8]>)
 
 // Reads bytes as a name. Returns `None` if they are empty or not UTF-8.
 fn name_in(bytes: &[u8]) -> Option<&str>
-    ensures { MatchOption result ((bytes.now ≡ []) ⊎ (is_utf8 bytes.now ≡ false)) (λ name. (name.now ≡ bytes.now) × (bytes.now ≢ []) × (is_utf8 bytes.now ≡ true)) }
+    ensures { MatchOption result ((bytes.now ≡ []) ⊎ (is_utf8 bytes.now ≡ false))
+        (λ name. (name.now ≡ bytes.now) × (bytes.now ≢ []) × (is_utf8 bytes.now ≡ true)) }
 {
     if bytes.is_empty() {
         return None;
@@ -73,11 +75,15 @@ pub fn push_names<'a>(
     separator: u8,
     most: usize,
 ) -> Result<(), NameListFault>
-    ensures ok { OnOk result (AreNamed separator text.now (map (λ name. name.now) names.old.items) (map (λ name. name.now) names.new.items)) }
+    ensures ok { OnOk result (AreNamed separator text.now (map (λ name. name.now) names.old.items)
+        (map (λ name. name.now) names.new.items)) }
     ensures few { OnOk result (vec_len names.old ≤ most → vec_len names.new ≤ most) }
     ensures err { IfErr result (IsNoList separator text.now (most - vec_len names.old)) }
-    ensures ok_of_front { OnOk result ((whole : List ℕ) → vec_len names.old ≤ most → IsFront separator (most - vec_len names.old) whole text.now → whole ≡ text.now) }
-    ensures err_of_front { IfErr result (λ fault. (whole : List ℕ) → IsFront separator (most - vec_len names.old) whole text.now → IsNoList separator whole (most - vec_len names.old) fault) }
+    ensures ok_of_front { OnOk result ((whole : List ℕ) → vec_len names.old ≤ most
+        → IsFront separator (most - vec_len names.old) whole text.now → whole ≡ text.now) }
+    ensures err_of_front { IfErr result (λ fault.
+        (whole : List ℕ) → IsFront separator (most - vec_len names.old) whole text.now
+        → IsNoList separator whole (most - vec_len names.old) fault) }
 {
     let begun = names.len();
     let mut rest = text;

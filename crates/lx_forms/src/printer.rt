@@ -70,17 +70,30 @@ impl<'a, S: LineSink> Taker<KeepItems> for FormPrinter<'a, S> {
 
     ghost turn = { λ s. turn_of s.file s.number };
 
-    ghost follows = { λ s t. PrintsOn S.wrote (printing_in (form_view s.form.now) s.plan.value s.file s.number s.sink) (printing_in (form_view t.form.now) t.plan.value t.file t.number t.sink) };
+    ghost follows = { λ s t.
+        PrintsOn S.wrote (printing_in (form_view s.form.now) s.plan.value s.file s.number s.sink)
+        (printing_in (form_view t.form.now) t.plan.value t.file t.number t.sink) };
 
-    ghost fails = { λ s _ t. PrintsSome S.wrote (printing_in (form_view s.form.now) s.plan.value s.file s.number s.sink) (printing_in (form_view t.form.now) t.plan.value t.file t.number t.sink) };
+    ghost fails = { λ s _ t.
+        PrintsSome S.wrote (printing_in (form_view s.form.now) s.plan.value s.file s.number s.sink)
+        (printing_in (form_view t.form.now) t.plan.value t.file t.number t.sink) };
 
     fn take(&mut self, whole: &Plan, piece: Piece<Items>) -> Result<(), ReaderFault>
         requires same { whole.now ≡ self.old.plan.value }
-        requires turn { HasTurn bare self.old.plan.value (turn_of self.old.file self.old.number) piece }
+        requires turn { HasTurn bare self.old.plan.value (turn_of self.old.file self.old.number)
+            piece }
         ensures plan { self.new.plan.value ≡ self.old.plan.value }
-        ensures turn { OnOk result (turn_of self.new.file self.new.number ≡ turn_after self.old.plan.value (turn_of self.old.file self.old.number)) }
-        ensures follows { OnOk result (PrintsOn S.wrote (printing_in (form_view self.old.form.now) self.old.plan.value self.old.file self.old.number self.old.sink) (printing_in (form_view self.new.form.now) self.new.plan.value self.new.file self.new.number self.new.sink)) }
-        ensures fails { IfErr result (λ fault. PrintsSome S.wrote (printing_in (form_view self.old.form.now) self.old.plan.value self.old.file self.old.number self.old.sink) (printing_in (form_view self.new.form.now) self.new.plan.value self.new.file self.new.number self.new.sink)) }
+        ensures turn { OnOk result (turn_of self.new.file self.new.number
+            ≡ turn_after self.old.plan.value (turn_of self.old.file self.old.number)) }
+        ensures follows { OnOk result (PrintsOn S.wrote (printing_in (form_view self.old.form.now)
+            self.old.plan.value self.old.file self.old.number self.old.sink) (printing_in
+            (form_view self.new.form.now) self.new.plan.value self.new.file self.new.number
+            self.new.sink)) }
+        ensures fails { IfErr result (λ fault.
+            PrintsSome S.wrote (printing_in (form_view self.old.form.now) self.old.plan.value
+            self.old.file self.old.number self.old.sink) (printing_in
+            (form_view self.new.form.now) self.new.plan.value self.new.file
+            self.new.number self.new.sink)) }
     {
         // a law: the items of its pieces are items of its files
         plans_are_well_formed(whole);
@@ -98,11 +111,23 @@ impl<'a, S: LineSink> Taker<KeepItems> for FormPrinter<'a, S> {
         Ok(())
     }
 
-    ghost follows_itself = { λ s. prints_itself S.wrote S.wrote_nothing (printing_in (form_view s.form.now) s.plan.value s.file s.number s.sink) };
+    ghost follows_itself = { λ s.
+        prints_itself S.wrote S.wrote_nothing
+        (printing_in (form_view s.form.now) s.plan.value s.file s.number s.sink) };
 
-    ghost follows_on = { λ s t u f h. prints_then S.wrote S.wrote_on (printing_in (form_view s.form.now) s.plan.value s.file s.number s.sink) (printing_in (form_view t.form.now) t.plan.value t.file t.number t.sink) (printing_in (form_view u.form.now) u.plan.value u.file u.number u.sink) f h };
+    ghost follows_on = { λ s t u f h.
+        prints_then S.wrote S.wrote_on
+        (printing_in (form_view s.form.now) s.plan.value s.file s.number s.sink)
+        (printing_in (form_view t.form.now) t.plan.value t.file t.number t.sink)
+        (printing_in (form_view u.form.now) u.plan.value u.file u.number u.sink) f h };
 
-    ghost fails_behind = { λ s t u fault f h. some_behind S.wrote S.wrote_on (printing_in (form_view s.form.now) s.plan.value s.file s.number s.sink) (printing_in (form_view t.form.now) t.plan.value t.file t.number t.sink) (printing_in (form_view u.form.now) u.plan.value u.file u.number u.sink) f h };
+    ghost fails_behind = { λ s t u fault f h.
+        some_behind S.wrote S.wrote_on
+        (printing_in (form_view s.form.now) s.plan.value s.file s.number s.sink)
+        (printing_in (form_view t.form.now) t.plan.value t.file t.number t.sink)
+        (printing_in (form_view u.form.now) u.plan.value u.file u.number u.sink) f h };
 
-    ghost fails_at_once = { λ s. prints_no_more S.wrote S.wrote_nothing (printing_in (form_view s.form.now) s.plan.value s.file s.number s.sink) };
+    ghost fails_at_once = { λ s.
+        prints_no_more S.wrote S.wrote_nothing
+        (printing_in (form_view s.form.now) s.plan.value s.file s.number s.sink) };
 }

@@ -28,8 +28,10 @@ fn print_all<'f, S: LineSink + Drop>(
     requires plan { printer.plan.value ≡ plan.now }
     requires file { printer.file ≡ 0 }
     requires number { printer.number ≡ 0 }
-    ensures ok { OnOk result.1 (S.wrote printer.entry.sink (listing_in (form_view printer.entry.form.now) plan.now) result.0.sink) }
-    ensures part { WrotePrefix S.wrote printer.entry.sink (listing_in (form_view printer.entry.form.now) plan.now) result.0.sink }
+    ensures ok { OnOk result.1 (S.wrote printer.entry.sink
+        (listing_in (form_view printer.entry.form.now) plan.now) result.0.sink) }
+    ensures part { WrotePrefix S.wrote printer.entry.sink
+        (listing_in (form_view printer.entry.form.now) plan.now) result.0.sink }
 {
     match InOrder::<KeepItems, FormPrinter<'f, S>>::new(alloc, plan, printer) {
         Ok(mut order) => {
@@ -48,8 +50,10 @@ fn print_to<'w, W: Write>(
     sink: Lent<'w, W>,
 ) -> (Lent<'w, W>, Result<(), RunFault>)
     ensures same_reference { result.0.out.ghost_name ≡ sink.entry.out.ghost_name }
-    ensures ok { OnOk result.1 (Appends (W.contents sink.entry.out.now) (W.contents result.0.out.now) (listing_in (form_view form.now) plan.now)) }
-    ensures err { OnErr result.1 (AppendsPrefix (W.contents sink.entry.out.now) (W.contents result.0.out.now) (listing_in (form_view form.now) plan.now)) }
+    ensures ok { OnOk result.1 (Appends (W.contents sink.entry.out.now)
+        (W.contents result.0.out.now) (listing_in (form_view form.now) plan.now)) }
+    ensures err { OnErr result.1 (AppendsPrefix (W.contents sink.entry.out.now)
+        (W.contents result.0.out.now) (listing_in (form_view form.now) plan.now)) }
 {
     let printer = FormPrinter::new(alloc, plan, form, sink);
     let (printer, answer) = print_all(alloc, plan, printer);
@@ -74,8 +78,10 @@ fn scan_all_to<'f, T: Threads + Wait + Sync, S: LineSink + Drop>(
     requires plan { printer.plan.value ≡ plan.now }
     requires file { printer.file ≡ 0 }
     requires number { printer.number ≡ 0 }
-    ensures ok { OnOk result.1 (S.wrote printer.entry.sink (listing_in (form_view printer.entry.form.now) plan.now) result.0.sink) }
-    ensures part { WrotePrefix S.wrote printer.entry.sink (listing_in (form_view printer.entry.form.now) plan.now) result.0.sink }
+    ensures ok { OnOk result.1 (S.wrote printer.entry.sink
+        (listing_in (form_view printer.entry.form.now) plan.now) result.0.sink) }
+    ensures part { WrotePrefix S.wrote printer.entry.sink
+        (listing_in (form_view printer.entry.form.now) plan.now) result.0.sink }
 {
     match InOrder::<KeepItems, FormPrinter<'f, S>>::new(alloc, plan, printer) {
         Ok(order) => {
@@ -98,8 +104,10 @@ fn scan_to<'w, T: Threads + Wait + Sync, W: Write>(
     requires some_workers { 0 < workers }
     requires few_workers { workers ≤ max_workers }
     ensures same_reference { result.0.out.ghost_name ≡ sink.entry.out.ghost_name }
-    ensures ok { OnOk result.1 (Appends (W.contents sink.entry.out.now) (W.contents result.0.out.now) (listing_in (form_view form.now) plan.now)) }
-    ensures err { OnErr result.1 (AppendsPrefix (W.contents sink.entry.out.now) (W.contents result.0.out.now) (listing_in (form_view form.now) plan.now)) }
+    ensures ok { OnOk result.1 (Appends (W.contents sink.entry.out.now)
+        (W.contents result.0.out.now) (listing_in (form_view form.now) plan.now)) }
+    ensures err { OnErr result.1 (AppendsPrefix (W.contents sink.entry.out.now)
+        (W.contents result.0.out.now) (listing_in (form_view form.now) plan.now)) }
 {
     let printer = FormPrinter::new(alloc, plan, form, sink);
     let (printer, answer) = scan_all_to(rt, alloc, plan, workers, printer);
@@ -119,8 +127,10 @@ pub fn list_plan_in<T: Threads + Wait + Sync, W: Write>(
     out: &mut W,
 ) -> Result<(), RunFault>
     requires { workers ≤ max_workers }
-    ensures ok { OnOk result (Appends (W.contents out.old) (W.contents out.new) (listing_in (form_view form.now) plan.now)) }
-    ensures err { OnErr result (AppendsPrefix (W.contents out.old) (W.contents out.new) (listing_in (form_view form.now) plan.now)) }
+    ensures ok { OnOk result (Appends (W.contents out.old) (W.contents out.new)
+        (listing_in (form_view form.now) plan.now)) }
+    ensures err { OnErr result (AppendsPrefix (W.contents out.old) (W.contents out.new)
+        (listing_in (form_view form.now) plan.now)) }
 {
     if form.is_bare() {
         bare_listings_are_listings();

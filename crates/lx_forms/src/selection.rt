@@ -19,7 +19,8 @@ impl Model for Selection {
 
     ghost Value = { Selected };
 
-    ghost view = { λ s. record { names = s.names.items; numbers = s.numbers.items; echoes = s.echoes } };
+    ghost view = { λ s.
+        record { names = s.names.items; numbers = s.numbers.items; echoes = s.echoes } };
 }
 
 impl Selection {
@@ -28,7 +29,8 @@ impl Selection {
     /// Returns a selection. It has the named kinds for which `names` is true, in the order of the tables' list of kinds, and the kinds with these
     /// numbers. It has echoes if `echoes` is true. A named kind after the end of `names` isn't selected. Allocates nothing.
     pub fn new(names: Vec<bool>, numbers: Vec<u32>, echoes: bool) -> Selection
-        ensures { result ≡ record { names = names.items; numbers = numbers.items; echoes = echoes } }
+        ensures { result
+            ≡ record { names = names.items; numbers = numbers.items; echoes = echoes } }
     {
         Selection {
             names,

@@ -13,7 +13,8 @@ use std::simd::prelude::*;
 #[inline(always)]
 fn plain_16(src: &[u8], from: usize) -> usize
     requires { from + 16 ≤ length src.now }
-    ensures { (n : ℕ) → n ≤ 16 → n ≤ result → flat_map string_escaped (take n (drop from src.now)) ≡ take n (drop from src.now) }
+    ensures { (n : ℕ) → n ≤ 16 → n ≤ result
+        → flat_map string_escaped (take n (drop from src.now)) ≡ take n (drop from src.now) }
 {
     let bytes = u8x16::from_slice(&src[from..]);
     let is_escaped = bytes.simd_lt(u8x16::splat(b' '))
@@ -103,7 +104,8 @@ fn place_part(buf: &mut [u8], at: usize, bytes: &[u8], from: usize, most: usize)
     requires some { 0 < most }
     requires text { from + most + 16 ≤ length bytes.now }
     requires room { at + 22 ≤ length buf.old }
-    ensures placed { Placed buf.old buf.new at (flat_map string_escaped (take result.count (drop from bytes.now))) result.end }
+    ensures placed { Placed buf.old buf.new at
+        (flat_map string_escaped (take result.count (drop from bytes.now))) result.end }
     ensures some { 0 < result.count }
     ensures few { result.count ≤ most }
     ensures short { result.end ≤ at + 6 * result.count }
@@ -125,7 +127,8 @@ fn place_part(buf: &mut [u8], at: usize, bytes: &[u8], from: usize, most: usize)
 fn place_long(buf: &mut [u8], at: usize, bytes: &[u8], start: usize, len: usize) -> usize
     requires text { start + len + 16 ≤ length bytes.now }
     requires room { at + 6 * len + 16 ≤ length buf.old }
-    ensures placed { Placed buf.old buf.new at (flat_map string_escaped (take len (drop start bytes.now))) result }
+    ensures placed { Placed buf.old buf.new at
+        (flat_map string_escaped (take len (drop start bytes.now))) result }
     ensures short { result ≤ at + 6 * len }
 {
     let mut done = 0;
@@ -149,7 +152,8 @@ pub(crate) fn place_string(
 ) -> usize
     requires text { start + len + 16 ≤ length bytes.now }
     requires room { at + 6 * len + 16 ≤ length buf.old }
-    ensures placed { Placed buf.old buf.new at (flat_map string_escaped (take len (drop start bytes.now))) result }
+    ensures placed { Placed buf.old buf.new at
+        (flat_map string_escaped (take len (drop start bytes.now))) result }
     ensures short { result ≤ at + 6 * len }
 {
     if len <= 16 && len <= plain_16(bytes, start) {

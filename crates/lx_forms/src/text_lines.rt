@@ -49,7 +49,8 @@ fn push_name(block: &mut Vec<u8>, name: &[u8]) -> Result<(), AllocError>
 
 // Appends the name of a file if names are printed, otherwise its number.
 fn push_file(block: &mut Vec<u8>, form: &Form<'_>, file: u32) -> Result<(), AllocError>
-    ensures { OnOk result (block.new.items ≡ block.old.items ++ file_text (form_view form.now) file) }
+    ensures { OnOk result
+        (block.new.items ≡ block.old.items ++ file_text (form_view form.now) file) }
 {
     match form.names {
         Some(names) => push_name(block, name_of(names, file)),
@@ -72,7 +73,8 @@ fn push_fields(block: &mut Vec<u8>, plan: &Plan, item: &Item) -> Result<(), Allo
 
 // Appends a blank and a text, if texts are printed.
 fn push_text_part(block: &mut Vec<u8>, form: &Form<'_>, text: &[u8]) -> Result<(), AllocError>
-    ensures { OnOk result (block.new.items ≡ block.old.items ++ text_part (form_view form.now) text.now) }
+    ensures { OnOk result
+        (block.new.items ≡ block.old.items ++ text_part (form_view form.now) text.now) }
 {
     if !form.text {
         return Ok(());
@@ -101,7 +103,8 @@ pub(crate) fn push_text_line(
 ) -> Result<(), AllocError>
     requires file { file < files_of plan.now }
     requires item { IsItemOf (kinds_of plan.now) (bytes_of plan.now file) item.now }
-    ensures { OnOk result (block.new.items ≡ block.old.items ++ text_line (form_view form.now) plan.now file item.now) }
+    ensures { OnOk result (block.new.items
+        ≡ block.old.items ++ text_line (form_view form.now) plan.now file item.now) }
 {
     push_file(block, form, file)?;
     block.extend_from_slice(b" ")?;
@@ -118,7 +121,8 @@ pub(crate) fn push_text_cut_line(
     form: &Form<'_>,
     file: u32,
 ) -> Result<(), AllocError>
-    ensures { OnOk result (block.new.items ≡ block.old.items ++ text_cut_line (form_view form.now) file) }
+    ensures { OnOk result
+        (block.new.items ≡ block.old.items ++ text_cut_line (form_view form.now) file) }
 {
     push_file(block, form, file)?;
     block.extend_from_slice(b" ! cut\n")?;

@@ -44,7 +44,8 @@ fn push_edge_line(
     target: u32,
 ) -> Result<(), AllocError>
     requires { state < state_count tables.now.machine }
-    ensures { OnOk result (text.new.items ≡ text.old.items ++ specs.edge_line tables.now.machine state target) }
+    ensures { OnOk result
+        (text.new.items ≡ text.old.items ++ specs.edge_line tables.now.machine state target) }
 {
     push_numbered(text, b"    ", state)?;
     push_numbered(text, b" -> ", target)?;
@@ -57,7 +58,8 @@ fn push_edge(text: &mut Vec<u8>, tables: &Tables, state: u32, class: u16) -> Res
     requires state { state < state_count tables.now.machine }
     requires class { class < tables.now.machine.width }
     requires byte { class < 256 }
-    ensures { OnOk result (text.new.items ≡ text.old.items ++ specs.edge_text tables.now.machine state class) }
+    ensures { OnOk result
+        (text.new.items ≡ text.old.items ++ specs.edge_text tables.now.machine state class) }
 {
     match tables.class_step(State(state), class as u8) {
         None => Ok(()),
@@ -74,7 +76,8 @@ fn push_edge(text: &mut Vec<u8>, tables: &Tables, state: u32, class: u16) -> Res
 /// Appends the edges from a state.
 pub(crate) fn push_edges(text: &mut Vec<u8>, tables: &Tables, state: u32) -> Result<(), AllocError>
     requires { state < state_count tables.now.machine }
-    ensures { OnOk result (text.new.items ≡ text.old.items ++ specs.edges_text tables.now.machine state) }
+    ensures { OnOk result
+        (text.new.items ≡ text.old.items ++ specs.edges_text tables.now.machine state) }
 {
     for class in 0..tables.classes() {
         push_edge(text, tables, state, class)?;

@@ -11,7 +11,9 @@ use lx_tables::Tables;
 use std::alloc::{AllocError, Global};
 
 fn push_starts(text: &mut Vec<u8>, tables: &Tables, names: &[Vec<u8>]) -> Result<(), AllocError>
-    ensures { OnOk result (text.new.items ≡ text.old.items ++ flat_map (specs.condition_text (names_view names.now) tables.now.machine) (range_with_len 0 (length tables.now.machine.starts))) }
+    ensures { OnOk result (text.new.items ≡ text.old.items
+        ++ flat_map (specs.condition_text (names_view names.now) tables.now.machine)
+        (range_with_len 0 (length tables.now.machine.starts))) }
 {
     for condition in 0..tables.conditions() {
         push_start(text, tables, names, condition)?;
@@ -20,7 +22,9 @@ fn push_starts(text: &mut Vec<u8>, tables: &Tables, names: &[Vec<u8>]) -> Result
 }
 
 fn push_states(text: &mut Vec<u8>, tables: &Tables, names: &[Vec<u8>]) -> Result<(), AllocError>
-    ensures { OnOk result (text.new.items ≡ text.old.items ++ flat_map (specs.state_text tables.now (names_view names.now)) (range_with_len 0 (state_count tables.now.machine))) }
+    ensures { OnOk result (text.new.items
+        ≡ text.old.items ++ flat_map (specs.state_text tables.now (names_view names.now))
+        (range_with_len 0 (state_count tables.now.machine))) }
 {
     for state in 0..tables.states() {
         push_state(text, tables, names, state)?;
@@ -36,7 +40,8 @@ fn push_states(text: &mut Vec<u8>, tables: &Tables, names: &[Vec<u8>]) -> Result
 ///
 /// `names` are the names of the conditions, identifiers, in order. A condition without a name has its number. Err: an allocation failed.
 pub fn graph_of(alloc: Global, tables: &Tables, names: &[Vec<u8>]) -> Result<Vec<u8>, AllocError>
-    ensures { IfOk result (λ text. text.items ≡ specs.graph_text tables.now (names_view names.now)) }
+    ensures { IfOk result
+        (λ text. text.items ≡ specs.graph_text tables.now (names_view names.now)) }
 {
     let mut text = Vec::new(alloc);
     text.extend_from_slice(b"digraph lx {\n    rankdir=LR;\n    node [shape=circle];\n")?;

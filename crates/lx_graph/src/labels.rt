@@ -115,7 +115,8 @@ fn push_range_part(
     byte: u8,
 ) -> Result<(), AllocError>
     requires { state < state_count tables.now.machine }
-    ensures { OnOk result (text.new.items ≡ text.old.items ++ specs.range_part (specs.leads tables.now.machine state target) byte) }
+    ensures { OnOk result (text.new.items ≡ text.old.items
+        ++ specs.range_part (specs.leads tables.now.machine state target) byte) }
 {
     if !leads(tables, state, target, byte) {
         return Ok(());
@@ -137,7 +138,8 @@ fn push_range_at(
 ) -> Result<(), AllocError>
     requires state { state < state_count tables.now.machine }
     requires byte { byte < 256 }
-    ensures { OnOk result (text.new.items ≡ text.old.items ++ specs.range_part (specs.leads tables.now.machine state target) byte) }
+    ensures { OnOk result (text.new.items ≡ text.old.items
+        ++ specs.range_part (specs.leads tables.now.machine state target) byte) }
 {
     push_range_part(text, tables, state, target, byte as u8)
 }
@@ -150,7 +152,8 @@ pub(crate) fn push_ranges(
     target: u32,
 ) -> Result<(), AllocError>
     requires { state < state_count tables.now.machine }
-    ensures { OnOk result (text.new.items ≡ text.old.items ++ specs.ranges tables.now.machine state target) }
+    ensures { OnOk result
+        (text.new.items ≡ text.old.items ++ specs.ranges tables.now.machine state target) }
 {
     for byte in 0..256 {
         push_range_at(text, tables, state, target, byte)?;
@@ -164,7 +167,8 @@ pub(crate) fn push_condition(
     names: &[Vec<u8>],
     condition: u16,
 ) -> Result<(), AllocError>
-    ensures { OnOk result (text.new.items ≡ text.old.items ++ specs.condition_label (names_view names.now) condition) }
+    ensures { OnOk result (text.new.items
+        ≡ text.old.items ++ specs.condition_label (names_view names.now) condition) }
 {
     if usize::from(condition) < names.len() {
         text.extend_from_slice(&names[usize::from(condition)])
@@ -193,7 +197,8 @@ fn push_step(
     names: &[Vec<u8>],
     step: Step,
 ) -> Result<(), AllocError>
-    ensures { OnOk result (text.new.items ≡ text.old.items ++ specs.step_label tables.now (names_view names.now) step) }
+    ensures { OnOk result (text.new.items
+        ≡ text.old.items ++ specs.step_label tables.now (names_view names.now) step) }
 {
     match step {
         Step::Echo => text.extend_from_slice(b"\\nECHO"),
@@ -214,7 +219,8 @@ fn push_steps(
     names: &[Vec<u8>],
     steps: &[Step],
 ) -> Result<(), AllocError>
-    ensures { OnOk result (text.new.items ≡ text.old.items ++ flat_map (specs.step_label tables.now (names_view names.now)) steps.now) }
+    ensures { OnOk result (text.new.items ≡ text.old.items
+        ++ flat_map (specs.step_label tables.now (names_view names.now)) steps.now) }
 {
     for step in steps {
         push_step(text, tables, names, *step)?;
@@ -230,7 +236,8 @@ pub(crate) fn push_action(
     rule: u16,
 ) -> Result<(), AllocError>
     requires { rule < length tables.now.rules }
-    ensures { OnOk result (text.new.items ≡ text.old.items ++ specs.action_label tables.now (names_view names.now) (rule_at tables.now rule)) }
+    ensures { OnOk result (text.new.items ≡ text.old.items
+        ++ specs.action_label tables.now (names_view names.now) (rule_at tables.now rule)) }
 {
     if tables.cut(rule) {
         text.extend_from_slice(b"\\n$")?;

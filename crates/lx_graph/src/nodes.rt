@@ -26,7 +26,9 @@ fn push_accepting(
     rule: u16,
 ) -> Result<(), AllocError>
     requires { rule < length tables.now.rules }
-    ensures { OnOk result (text.new.items ≡ text.old.items ++ specs.accepting_line tables.now (names_view names.now) state (rule_at tables.now rule)) }
+    ensures { OnOk result (text.new.items
+        ≡ text.old.items ++ specs.accepting_line tables.now (names_view names.now) state
+        (rule_at tables.now rule)) }
 {
     push_accepting_name(text, state)?;
     push_action(text, tables, names, rule)?;
@@ -40,7 +42,8 @@ fn push_node(
     state: u32,
 ) -> Result<(), AllocError>
     requires { state < state_count tables.now.machine }
-    ensures { OnOk result (text.new.items ≡ text.old.items ++ specs.node_line tables.now (names_view names.now) state) }
+    ensures { OnOk result (text.new.items
+        ≡ text.old.items ++ specs.node_line tables.now (names_view names.now) state) }
 {
     match tables.accepts(State(state)) {
         None => {
@@ -59,7 +62,8 @@ pub(crate) fn push_state(
     state: u32,
 ) -> Result<(), AllocError>
     requires { state < state_count tables.now.machine }
-    ensures { OnOk result (text.new.items ≡ text.old.items ++ specs.state_text tables.now (names_view names.now) state) }
+    ensures { OnOk result (text.new.items
+        ≡ text.old.items ++ specs.state_text tables.now (names_view names.now) state) }
 {
     push_node(text, tables, names, state)?;
     push_edges(text, tables, state)
@@ -83,7 +87,8 @@ fn push_condition_line(
     names: &[Vec<u8>],
     condition: u16,
 ) -> Result<(), AllocError>
-    ensures { OnOk result (text.new.items ≡ text.old.items ++ specs.condition_line (names_view names.now) condition) }
+    ensures { OnOk result
+        (text.new.items ≡ text.old.items ++ specs.condition_line (names_view names.now) condition) }
 {
     push_begin(text, condition)?;
     text.extend_from_slice(b" [shape=plaintext, label=\"")?;
@@ -97,7 +102,8 @@ fn push_line_edge(
     elsewhere: u32,
     state: u32,
 ) -> Result<(), AllocError>
-    ensures { OnOk result (text.new.items ≡ text.old.items ++ specs.line_edge condition elsewhere state) }
+    ensures { OnOk result
+        (text.new.items ≡ text.old.items ++ specs.line_edge condition elsewhere state) }
 {
     if state == elsewhere {
         return Ok(());
@@ -114,7 +120,8 @@ pub(crate) fn push_start(
     condition: u16,
 ) -> Result<(), AllocError>
     requires { condition < length tables.now.machine.starts }
-    ensures { OnOk result (text.new.items ≡ text.old.items ++ specs.condition_text (names_view names.now) tables.now.machine condition) }
+    ensures { OnOk result (text.new.items ≡ text.old.items
+        ++ specs.condition_text (names_view names.now) tables.now.machine condition) }
 {
     let elsewhere = tables.start(condition, false).0;
     let at_line_begin = tables.start(condition, true).0;

@@ -66,7 +66,8 @@ impl Draft {
         requires bytes { bytes.now ≡ bytes_of plan.now file }
         requires item { IsItemOf (kinds_of plan.now) (bytes_of plan.now file) item.now }
         requires prefixes { ArePrefixesOf plan.now file self.old.prefixes }
-        ensures placed { MatchOption result (buf.new ≡ buf.old) (λ end. take end buf.new ≡ take at buf.old ++ line_of plan.now file item.now) }
+        ensures placed { MatchOption result (buf.new ≡ buf.old)
+            (λ end. take end buf.new ≡ take at buf.old ++ line_of plan.now file item.now) }
         ensures short { MatchOption result (Unit {0}) (λ end. end ≤ at + 480) }
         ensures len { length buf.new ≡ length buf.old }
         ensures prefixes { ArePrefixesOf plan.now file self.new.prefixes }
@@ -96,7 +97,8 @@ impl Draft {
         requires items { All (IsItemOf (kinds_of plan.now) (bytes_of plan.now file)) items.now }
         requires prefixes { ArePrefixesOf plan.now file self.old.prefixes }
         ensures few { result.count ≤ length items.now }
-        ensures lines { take result.end buf.new ≡ take at buf.old ++ lines_of plan.now file (take result.count items.now) }
+        ensures lines { take result.end buf.new
+            ≡ take at buf.old ++ lines_of plan.now file (take result.count items.now) }
         ensures within { result.end ≤ length buf.new }
         ensures len { length buf.new ≡ length buf.old }
         ensures prefixes { ArePrefixesOf plan.now file self.new.prefixes }

@@ -104,7 +104,8 @@ pub fn place_rest(
     requires len { numbers.len ≤ 96 }
     requires text { numbers.start + numbers.len + 16 ≤ length bytes.now }
     requires room { at + 448 ≤ length buf.old }
-    ensures placed { Placed buf.old buf.new at (rest_text numbers.line numbers.start numbers.len bytes.now) result }
+    ensures placed { Placed buf.old buf.new at
+        (rest_text numbers.line numbers.start numbers.len bytes.now) result }
     ensures short { result ≤ at + 448 }
 {
     let Numbers { line, start, len } = numbers;

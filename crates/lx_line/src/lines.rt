@@ -89,7 +89,8 @@ fn push_some(
     requires prefixes { ArePrefixesOf plan.now file draft.old.prefixes }
     ensures some { IfOk result (λ count. 0 < count) }
     ensures few { IfOk result (λ count. count ≤ length items.now) }
-    ensures lines { IfOk result (λ count. block.new.items ≡ block.old.items ++ lines_of plan.now file (take count items.now)) }
+    ensures lines { IfOk result (λ count.
+        block.new.items ≡ block.old.items ++ lines_of plan.now file (take count items.now)) }
     ensures prefixes { ArePrefixesOf plan.now file draft.new.prefixes }
 {
     let FirstLines { count, end } = draft.place_lines(lines, 0, plan, file, items);
@@ -113,7 +114,8 @@ fn push_many(
     requires file { file < files_of plan.now }
     requires items { All (IsItemOf (kinds_of plan.now) (bytes_of plan.now file)) items.now }
     requires prefixes { ArePrefixesOf plan.now file draft.old.prefixes }
-    ensures lines { OnOk result (block.new.items ≡ block.old.items ++ lines_of plan.now file items.now) }
+    ensures lines { OnOk result
+        (block.new.items ≡ block.old.items ++ lines_of plan.now file items.now) }
     ensures prefixes { ArePrefixesOf plan.now file draft.new.prefixes }
 {
     let mut lines = [0; LINES];
@@ -169,7 +171,8 @@ impl PlanDraft {
         requires file { file < files_of plan.now }
         requires items { All (IsItemOf (kinds_of plan.now) (bytes_of plan.now file)) items.now }
         ensures plan { self.new ≡ self.old }
-        ensures lines { OnOk result (block.new.items ≡ block.old.items ++ lines_of plan.now file items.now) }
+        ensures lines { OnOk result
+            (block.new.items ≡ block.old.items ++ lines_of plan.now file items.now) }
     {
         if items.len() < MANY {
             return push_few(block, plan, file, items);

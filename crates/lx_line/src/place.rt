@@ -31,7 +31,8 @@ pub fn place_all(buf: &mut [u8], at: usize, text: &[u8]) -> usize
 pub fn put_4(buf: &mut [u8], at: usize, src: &[u8], from: usize)
     requires room { at + 4 ≤ length buf.old }
     requires source { from + 4 ≤ length src.now }
-    ensures { (len : ℕ) → len ≤ 4 → Placed buf.old buf.new at (take len (drop from src.now)) (at + len) }
+    ensures { (len : ℕ) → len ≤ 4
+        → Placed buf.old buf.new at (take len (drop from src.now)) (at + len) }
 {
     u8x4::from_slice(&src[from..]).copy_to_slice(&mut buf[at..]);
 }
@@ -53,7 +54,8 @@ pub fn place_4(buf: &mut [u8], at: usize, src: &[u8], from: usize, len: usize) -
 pub fn put_16(buf: &mut [u8], at: usize, src: &[u8], from: usize)
     requires room { at + 16 ≤ length buf.old }
     requires source { from + 16 ≤ length src.now }
-    ensures { (len : ℕ) → len ≤ 16 → Placed buf.old buf.new at (take len (drop from src.now)) (at + len) }
+    ensures { (len : ℕ) → len ≤ 16
+        → Placed buf.old buf.new at (take len (drop from src.now)) (at + len) }
 {
     u8x16::from_slice(&src[from..]).copy_to_slice(&mut buf[at..]);
 }

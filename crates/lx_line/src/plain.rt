@@ -65,7 +65,8 @@ pub fn push_field(line: &mut Vec<u8>, number: u64) -> Result<(), AllocError>
 // Appends the kind of a token, and a space.
 fn push_name(line: &mut Vec<u8>, plan: &Plan, kind: Kind) -> Result<(), AllocError>
     requires { IsKindAmong (kinds_of plan.now) kind }
-    ensures { OnOk result (line.new.items ≡ line.old.items ++ name_text plan.now kind ++ codes " ") }
+    ensures { OnOk result
+        (line.new.items ≡ line.old.items ++ name_text plan.now kind ++ codes " ") }
 {
     match kind {
         Kind::Name(place) => {
@@ -79,7 +80,9 @@ fn push_name(line: &mut Vec<u8>, plan: &Plan, kind: Kind) -> Result<(), AllocErr
 /// Appends the class of an item, T for a token or E for an Echo, and its kind, with a space after each.
 pub fn push_kind(line: &mut Vec<u8>, plan: &Plan, item: &Item) -> Result<(), AllocError>
     requires { NamesKindAmong (kinds_of plan.now) item.now }
-    ensures { OnOk result (line.new.items ≡ line.old.items ++ class_text item.now ++ codes " " ++ kind_text plan.now item.now ++ codes " ") }
+    ensures { OnOk result (line.new.items
+        ≡ line.old.items ++ class_text item.now ++ codes " " ++ kind_text plan.now item.now
+        ++ codes " ") }
 {
     match item {
         Item::Token { kind, .. } => {
@@ -98,7 +101,12 @@ pub fn push_fields(
     item: &Item,
 ) -> Result<(), AllocError>
     requires { NamesKindAmong (kinds_of plan.now) item.now }
-    ensures { OnOk result (block.new.items ≡ block.old.items ++ (decimal file ++ codes " " ++ class_text item.now ++ codes " " ++ kind_text plan.now item.now ++ codes " " ++ decimal (line_number item.now) ++ codes " " ++ decimal (start_of item.now) ++ codes " " ++ decimal (len_of item.now) ++ codes " ")) }
+    ensures { OnOk result (block.new.items
+        ≡ block.old.items ++ (decimal file ++ codes " " ++ class_text item.now ++ codes " "
+        ++ kind_text plan.now item.now ++ codes " "
+        ++ decimal (line_number item.now) ++ codes " "
+        ++ decimal (start_of item.now) ++ codes " " ++ decimal (len_of item.now)
+        ++ codes " ")) }
 {
     let numbers = numbers_of(item);
     push_field(block, u64::from(file))?;

@@ -40,7 +40,8 @@ impl Prefix {
     fn of(file: u32, class_and_kind: &[u8]) -> Prefix
         requires { length class_and_kind.now ≤ 20 }
         ensures short { result.len ≤ 32 }
-        ensures text { take result.len result.text ≡ decimal file ++ codes " " ++ class_and_kind.now }
+        ensures text { take result.len result.text
+            ≡ decimal file ++ codes " " ++ class_and_kind.now }
     {
         let mut text = [0; 32];
         let at = place_file(&mut text, file);
@@ -72,7 +73,8 @@ fn place_file(buf: &mut [u8], file: u32) -> usize
 fn place_name(buf: &mut [u8], at: usize, plan: &Plan, kind: Kind) -> Option<usize>
     requires room { at + 33 ≤ length buf.old }
     requires kind { IsKindAmong (kinds_of plan.now) kind }
-    ensures { MatchOption result (Unit {0}) (λ end. Placed buf.old buf.new at (name_text plan.now kind ++ codes " ") end) }
+    ensures { MatchOption result (Unit {0})
+        (λ end. Placed buf.old buf.new at (name_text plan.now kind ++ codes " ") end) }
 {
     match kind {
         Kind::Number(number) => Some(place_number(buf, at, u64::from(number))),
@@ -90,7 +92,8 @@ fn place_name(buf: &mut [u8], at: usize, plan: &Plan, kind: Kind) -> Option<usiz
 // Makes the prefix of the lines of tokens of a kind, if it is short enough to be kept.
 fn prefix_of_kind(plan: &Plan, file: u32, kind: Kind) -> Option<Prefix>
     requires { IsKindAmong (kinds_of plan.now) kind }
-    ensures { MatchOption result (Unit {0}) (λ prefix. IsPrefixOf plan.now file (Some kind) prefix) }
+    ensures { MatchOption result (Unit {0})
+        (λ prefix. IsPrefixOf plan.now file (Some kind) prefix) }
 {
     let mut text = [0; 64];
     let at = place_file(&mut text, file);
@@ -113,7 +116,8 @@ fn prefix_of_echoes(plan: &Plan, file: u32) -> Prefix
 // Makes the prefix of the lines of items with a label, if it is short enough to be kept.
 fn prefix_of(plan: &Plan, file: u32, label: u64) -> Option<Prefix>
     requires { IsKindOf plan.now (kind_of_label label) }
-    ensures { MatchOption result (Unit {0}) (λ prefix. IsPrefixOf plan.now file (kind_of_label label) prefix) }
+    ensures { MatchOption result (Unit {0})
+        (λ prefix. IsPrefixOf plan.now file (kind_of_label label) prefix) }
 {
     match kind_of_label(label) {
         Some(kind) => prefix_of_kind(plan, file, kind),
@@ -164,7 +168,8 @@ impl Prefixes {
         requires room { at + 32 ≤ length buf.old }
         requires kind { IsKindOf plan.now (kind_of_label label) }
         requires prefixes { ArePrefixesOf plan.now file self.old }
-        ensures placed { MatchOption result (buf.new ≡ buf.old) (λ end. Placed buf.old buf.new at (prefix_text plan.now file (kind_of_label label)) end) }
+        ensures placed { MatchOption result (buf.new ≡ buf.old) (λ end.
+            Placed buf.old buf.new at (prefix_text plan.now file (kind_of_label label)) end) }
         ensures short { MatchOption result (Unit {0}) (λ end. end ≤ at + 32) }
         ensures prefixes { ArePrefixesOf plan.now file self.new }
     {
@@ -187,7 +192,8 @@ impl Prefixes {
         requires room { at + 32 ≤ length buf.old }
         requires kind { IsKindOf plan.now (kind_of_label label) }
         requires prefixes { ArePrefixesOf plan.now file self.old }
-        ensures placed { MatchOption result (buf.new ≡ buf.old) (λ end. Placed buf.old buf.new at (prefix_text plan.now file (kind_of_label label)) end) }
+        ensures placed { MatchOption result (buf.new ≡ buf.old) (λ end.
+            Placed buf.old buf.new at (prefix_text plan.now file (kind_of_label label)) end) }
         ensures short { MatchOption result (Unit {0}) (λ end. end ≤ at + 32) }
         ensures prefixes { ArePrefixesOf plan.now file self.new }
     {

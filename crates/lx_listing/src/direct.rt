@@ -31,8 +31,11 @@ fn write_items_of<S: LineSink>(
     requires draft { draft.old ≡ plan.now }
     requires file { file < files_of plan.now }
     ensures draft { draft.new ≡ draft.old }
-    ensures ok { OnOk result (S.wrote sink.old (lines_of plan.now file (items_of plan.now file)) sink.new) }
-    ensures part { IfErr result (λ fault. WrotePart S.wrote sink.old fault (lines_of plan.now file (items_of plan.now file)) sink.new) }
+    ensures ok { OnOk result
+        (S.wrote sink.old (lines_of plan.now file (items_of plan.now file)) sink.new) }
+    ensures part { IfErr result (λ fault.
+        WrotePart S.wrote sink.old fault (lines_of plan.now file (items_of plan.now file))
+        sink.new) }
 {
     let tables = plan.tables();
     let text = plan.bytes(file);
@@ -65,7 +68,8 @@ fn write_file<S: LineSink>(
     requires file { file < files_of plan.now }
     ensures draft { draft.new ≡ draft.old }
     ensures ok { OnOk result (S.wrote sink.old (file_lines plan.now file) sink.new) }
-    ensures part { IfErr result (λ fault. WrotePart S.wrote sink.old fault (file_lines plan.now file) sink.new) }
+    ensures part { IfErr result
+        (λ fault. WrotePart S.wrote sink.old fault (file_lines plan.now file) sink.new) }
 {
     write_items_of(alloc, plan, file, draft, items, block, sink)?;
     write_cut(sink, block, file, plan.is_cut(file))

@@ -108,8 +108,11 @@ impl<S: LineSink> Gathering<S> {
     ) -> Result<(), ReaderFault>
         requires file { file < files_of plan.now }
         requires item { IsItemOf (kinds_of plan.now) (bytes_of plan.now file) item.now }
-        ensures ok { OnOk result (Gathers S.wrote self.old (line_of plan.now file item.now) self.new) }
-        ensures part { IfErr result (λ fault. WrotePart (Gathers S.wrote) self.old fault (line_of plan.now file item.now) self.new) }
+        ensures ok { OnOk result
+            (Gathers S.wrote self.old (line_of plan.now file item.now) self.new) }
+        ensures part { IfErr result (λ fault.
+            WrotePart (Gathers S.wrote) self.old fault (line_of plan.now file item.now)
+            self.new) }
     {
         let item = item.item();
         if numbers_of(&item).len > PART {
@@ -138,8 +141,11 @@ impl<S: LineSink> Gathering<S> {
         ensures draft { draft.new ≡ draft.old }
         ensures some { IfOk result (λ count. 0 < count) }
         ensures few { IfOk result (λ count. count ≤ length items.now) }
-        ensures ok { IfOk result (λ count. Gathers S.wrote self.old (lines_of plan.now file (take count items.now)) self.new) }
-        ensures part { IfErr result (λ fault. WrotePart (Gathers S.wrote) self.old fault (lines_of plan.now file items.now) self.new) }
+        ensures ok { IfOk result (λ count.
+            Gathers S.wrote self.old (lines_of plan.now file (take count items.now)) self.new) }
+        ensures part { IfErr result (λ fault.
+            WrotePart (Gathers S.wrote) self.old fault (lines_of plan.now file items.now)
+            self.new) }
     {
         let count = draft.place_lines(&mut self.held, plan, file, items);
         if count == 0 {
@@ -162,8 +168,11 @@ impl<S: LineSink> Gathering<S> {
         requires file { file < files_of plan.now }
         requires items { All (IsItemOf (kinds_of plan.now) (bytes_of plan.now file)) items.now }
         ensures draft { draft.new ≡ draft.old }
-        ensures ok { OnOk result (Gathers S.wrote self.old (lines_of plan.now file items.now) self.new) }
-        ensures part { IfErr result (λ fault. WrotePart (Gathers S.wrote) self.old fault (lines_of plan.now file items.now) self.new) }
+        ensures ok { OnOk result
+            (Gathers S.wrote self.old (lines_of plan.now file items.now) self.new) }
+        ensures part { IfErr result (λ fault.
+            WrotePart (Gathers S.wrote) self.old fault (lines_of plan.now file items.now)
+            self.new) }
     {
         let mut done = 0;
         while done < items.len() {

@@ -55,9 +55,14 @@ impl<'a, W: Write> Model for Listing<'a, W> {
 
     ghost Value = { Printed };
 
-    ghost view = { λ s. printed (record { plan = s.plan.now; counts = s.queue.counts; faults = s.queue.faults; failed = s.queue.failed }) (W.contents s.queue.taker.sink.out) };
+    ghost view = { λ s.
+        printed (record
+        { plan = s.plan.now; counts = s.queue.counts; faults = s.queue.faults; failed = s.queue.failed })
+        (W.contents s.queue.taker.sink.out) };
 
-    ghost invariant = { λ s. IsInStep s.plan.now s.queue.taker.draft (turn_of s.queue.taker.file s.queue.taker.number) s.queue.counts s.queue.failed };
+    ghost invariant = { λ s.
+        IsInStep s.plan.now s.queue.taker.draft (turn_of s.queue.taker.file s.queue.taker.number)
+        s.queue.counts s.queue.failed };
 }
 
 impl<'a, W: Write> Listing<'a, W> {
@@ -66,7 +71,8 @@ impl<'a, W: Write> Listing<'a, W> {
     where
         W: Drop,
         ensures plan { IfOk result (λ listing. listing.progress.plan ≡ plan.now) }
-        ensures counts { IfOk result (λ listing. listing.progress.counts ≡ replicate (files_of plan.now) 0) }
+        ensures counts { IfOk result
+            (λ listing. listing.progress.counts ≡ replicate (files_of plan.now) 0) }
         ensures faults { IfOk result (λ listing. listing.progress.faults ≡ 0) }
         ensures failed { IfOk result (λ listing. listing.progress.failed ≡ false) }
         ensures written { IfOk result (λ listing. listing.written ≡ W.contents out) }
@@ -107,11 +113,15 @@ impl<'a, W: Write> Reader for Listing<'a, W> {
         requires countable { self.old.progress.faults < top_number }
         ensures plan { self.new.progress.plan ≡ self.old.progress.plan }
         ensures follows { Prints self.old self.new }
-        ensures ok { OnOk result (self.new.progress.counts ≡ counted self.old.progress.counts piece.file) }
+        ensures ok { OnOk result
+            (self.new.progress.counts ≡ counted self.old.progress.counts piece.file) }
         ensures err { OnErr result (self.new.progress.counts ≡ self.old.progress.counts) }
-        ensures device { result ≡ Err ReaderFault.Device → self.new.progress.faults ≡ self.old.progress.faults + 1 }
-        ensures memory { result ≡ Err ReaderFault.Memory → self.new.progress.faults ≡ self.old.progress.faults }
-        ensures whole_lines { result ≡ Err ReaderFault.Memory → AppendsWhole self.old.written self.new.written }
+        ensures device { result ≡ Err ReaderFault.Device
+            → self.new.progress.faults ≡ self.old.progress.faults + 1 }
+        ensures memory { result ≡ Err ReaderFault.Memory
+            → self.new.progress.faults ≡ self.old.progress.faults }
+        ensures whole_lines { result ≡ Err ReaderFault.Memory
+            → AppendsWhole self.old.written self.new.written }
         ensures no_fault { OnOk result (self.new.progress.faults ≡ self.old.progress.faults) }
         ensures failed { OnErr result (self.new.progress.failed ≡ true) }
         ensures working { OnOk result (self.new.progress.failed ≡ false) }

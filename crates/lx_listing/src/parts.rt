@@ -28,7 +28,8 @@ fn gather_part<S: LineSink>(
 ) -> Result<(), ReaderFault>
     requires { 4 * length text.now + 16 ≤ length room.old }
     ensures ok { OnOk result (Gathers S.wrote sink.old (flat_map escaped text.now) sink.new) }
-    ensures err { OnErr result (WrotePrefix (Gathers S.wrote) sink.old (flat_map escaped text.now) sink.new) }
+    ensures err { OnErr result
+        (WrotePrefix (Gathers S.wrote) sink.old (flat_map escaped text.now) sink.new) }
     ensures device { IfErr result (λ fault. fault ≡ ReaderFault.Device) }
 {
     let end = place_any_text(room, 0, text);
@@ -38,7 +39,8 @@ fn gather_part<S: LineSink>(
 // Gathers a text, escaped. It allocates nothing, so no allocation can fail within a line.
 fn gather_text<S: LineSink>(sink: &mut Gathering<S>, text: &[u8]) -> Result<(), ReaderFault>
     ensures ok { OnOk result (Gathers S.wrote sink.old (flat_map escaped text.now) sink.new) }
-    ensures err { OnErr result (WrotePrefix (Gathers S.wrote) sink.old (flat_map escaped text.now) sink.new) }
+    ensures err { OnErr result
+        (WrotePrefix (Gathers S.wrote) sink.old (flat_map escaped text.now) sink.new) }
     ensures device { IfErr result (λ fault. fault ≡ ReaderFault.Device) }
 {
     let mut room = [0; ROOM];
@@ -62,7 +64,8 @@ pub(crate) fn gather_long<S: LineSink>(
     requires file { file < files_of plan.now }
     requires item { IsItemOf (kinds_of plan.now) (bytes_of plan.now file) item.now }
     ensures ok { OnOk result (Gathers S.wrote sink.old (line_of plan.now file item.now) sink.new) }
-    ensures part { IfErr result (λ fault. WrotePart (Gathers S.wrote) sink.old fault (line_of plan.now file item.now) sink.new) }
+    ensures part { IfErr result (λ fault.
+        WrotePart (Gathers S.wrote) sink.old fault (line_of plan.now file item.now) sink.new) }
 {
     block.clear();
     let Ok(()) = push_fields(block, plan, file, item) else {

@@ -43,7 +43,8 @@ fn write_piece<Y: Spares, S: LineSink>(
     requires file { piece.file < files_of plan.now }
     ensures draft { draft.new ≡ draft.old }
     ensures ok { OnOk result (S.wrote sink.old (shown_lines piece) sink.new) }
-    ensures part { IfErr result (λ fault. WrotePart S.wrote sink.old fault (shown_lines piece) sink.new) }
+    ensures part { IfErr result
+        (λ fault. WrotePart S.wrote sink.old fault (shown_lines piece) sink.new) }
 {
     let ends_cut = piece.is_cut_short();
     let Piece { file, items, .. } = piece;
@@ -96,17 +97,27 @@ impl<Y: Spares, S: LineSink> Taker<LineMaker<Y>> for Printer<Y, S> {
 
     ghost turn = { λ s. turn_of s.file s.number };
 
-    ghost follows = { λ s t. PrintsTo S.wrote (printing s.draft s.file s.number s.sink) (printing t.draft t.file t.number t.sink) };
+    ghost follows = { λ s t.
+        PrintsTo S.wrote (printing s.draft s.file s.number s.sink)
+        (printing t.draft t.file t.number t.sink) };
 
-    ghost fails = { λ s fault t. PrintsPart S.wrote (printing s.draft s.file s.number s.sink) fault (printing t.draft t.file t.number t.sink) };
+    ghost fails = { λ s fault t.
+        PrintsPart S.wrote (printing s.draft s.file s.number s.sink) fault
+        (printing t.draft t.file t.number t.sink) };
 
     fn take(&mut self, whole: &Plan, piece: Piece<Shown>) -> Result<(), ReaderFault>
         requires same { whole.now ≡ self.old.draft }
         requires turn { HasTurn shown self.old.draft (turn_of self.old.file self.old.number) piece }
         ensures plan { self.new.draft ≡ self.old.draft }
-        ensures turn { OnOk result (turn_of self.new.file self.new.number ≡ turn_after self.old.draft (turn_of self.old.file self.old.number)) }
-        ensures follows { OnOk result (PrintsTo S.wrote (printing self.old.draft self.old.file self.old.number self.old.sink) (printing self.new.draft self.new.file self.new.number self.new.sink)) }
-        ensures fails { IfErr result (λ fault. PrintsPart S.wrote (printing self.old.draft self.old.file self.old.number self.old.sink) fault (printing self.new.draft self.new.file self.new.number self.new.sink)) }
+        ensures turn { OnOk result (turn_of self.new.file self.new.number
+            ≡ turn_after self.old.draft (turn_of self.old.file self.old.number)) }
+        ensures follows { OnOk result (PrintsTo S.wrote
+            (printing self.old.draft self.old.file self.old.number self.old.sink)
+            (printing self.new.draft self.new.file self.new.number self.new.sink)) }
+        ensures fails { IfErr result (λ fault.
+            PrintsPart S.wrote
+            (printing self.old.draft self.old.file self.old.number self.old.sink) fault
+            (printing self.new.draft self.new.file self.new.number self.new.sink)) }
     {
         self.spares.receive(self.file, self.number);
         // a law: the items of its pieces are items of its files
@@ -129,11 +140,19 @@ impl<Y: Spares, S: LineSink> Taker<LineMaker<Y>> for Printer<Y, S> {
         Ok(())
     }
 
-    ghost follows_itself = { λ s. prints_itself S.wrote S.wrote_nothing (printing s.draft s.file s.number s.sink) };
+    ghost follows_itself = { λ s.
+        prints_itself S.wrote S.wrote_nothing (printing s.draft s.file s.number s.sink) };
 
-    ghost follows_on = { λ s t u f h. prints_then S.wrote S.wrote_on (printing s.draft s.file s.number s.sink) (printing t.draft t.file t.number t.sink) (printing u.draft u.file u.number u.sink) f h };
+    ghost follows_on = { λ s t u f h.
+        prints_then S.wrote S.wrote_on (printing s.draft s.file s.number s.sink)
+        (printing t.draft t.file t.number t.sink) (printing u.draft u.file u.number u.sink) f
+        h };
 
-    ghost fails_behind = { λ s t u fault f h. part_behind S.wrote S.wrote_on (printing s.draft s.file s.number s.sink) (printing t.draft t.file t.number t.sink) (printing u.draft u.file u.number u.sink) fault f h };
+    ghost fails_behind = { λ s t u fault f h.
+        part_behind S.wrote S.wrote_on (printing s.draft s.file s.number s.sink)
+        (printing t.draft t.file t.number t.sink) (printing u.draft u.file u.number u.sink)
+        fault f h };
 
-    ghost fails_at_once = { λ s. prints_no_more S.wrote S.wrote_nothing (printing s.draft s.file s.number s.sink) };
+    ghost fails_at_once = { λ s.
+        prints_no_more S.wrote S.wrote_nothing (printing s.draft s.file s.number s.sink) };
 }

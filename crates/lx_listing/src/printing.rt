@@ -137,8 +137,10 @@ pub fn list_plan<T: Threads + Wait + Sync, W: Write>(
     out: &mut W,
 ) -> Result<(), RunFault>
     requires { workers ≤ max_workers }
-    ensures ok { OnOk result (Appends (W.contents out.old) (W.contents out.new) (listing_of plan.now)) }
-    ensures err { OnErr result (AppendsPrefix (W.contents out.old) (W.contents out.new) (listing_of plan.now)) }
+    ensures ok { OnOk result
+        (Appends (W.contents out.old) (W.contents out.new) (listing_of plan.now)) }
+    ensures err { OnErr result
+        (AppendsPrefix (W.contents out.old) (W.contents out.new) (listing_of plan.now)) }
 {
     let sink = Lent { writes, out };
     let (sink, answer) = match writes {
@@ -156,8 +158,10 @@ pub fn list_plan<T: Threads + Wait + Sync, W: Write>(
 /// Writes the listing of a plan's files on one thread, the lines of each file in order and the files in order. Each line has its own write. After a
 /// fault, a prefix of the listing was written.
 pub fn print_listing<W: Write>(alloc: Global, plan: &Plan, out: &mut W) -> Result<(), RunFault>
-    ensures ok { OnOk result (Appends (W.contents out.old) (W.contents out.new) (listing_of plan.now)) }
-    ensures err { OnErr result (AppendsPrefix (W.contents out.old) (W.contents out.new) (listing_of plan.now)) }
+    ensures ok { OnOk result
+        (Appends (W.contents out.old) (W.contents out.new) (listing_of plan.now)) }
+    ensures err { OnErr result
+        (AppendsPrefix (W.contents out.old) (W.contents out.new) (listing_of plan.now)) }
 {
     let sink = Lent {
         writes: LineWrites::EachLine,

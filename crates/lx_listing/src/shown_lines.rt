@@ -24,7 +24,8 @@ fn write_given<S: LineSink>(
     requires file { file < files_of plan.now }
     requires items { All (IsItemOf (kinds_of plan.now) (bytes_of plan.now file)) items.now }
     ensures ok { OnOk result (S.wrote sink.old (lines_of plan.now file items.now) sink.new) }
-    ensures part { IfErr result (λ fault. WrotePart S.wrote sink.old fault (lines_of plan.now file items.now) sink.new) }
+    ensures part { IfErr result
+        (λ fault. WrotePart S.wrote sink.old fault (lines_of plan.now file items.now) sink.new) }
 {
     block.clear();
     let Ok(()) = push_each(block, plan, file, items) else {
@@ -49,7 +50,8 @@ pub(crate) fn write_shown<Y: Spares, S: LineSink>(
     requires file { file < files_of plan.now }
     ensures draft { draft.new ≡ draft.old }
     ensures ok { OnOk result (S.wrote sink.old (lines_of plan.now file shown.items) sink.new) }
-    ensures part { IfErr result (λ fault. WrotePart S.wrote sink.old fault (lines_of plan.now file shown.items) sink.new) }
+    ensures part { IfErr result
+        (λ fault. WrotePart S.wrote sink.old fault (lines_of plan.now file shown.items) sink.new) }
 {
     match shown.into_form() {
         Form::Bare(items) => {
@@ -78,7 +80,8 @@ pub(crate) fn write_cut<S: LineSink>(
     cut: bool,
 ) -> Result<(), ReaderFault>
     ensures ok { OnOk result (S.wrote sink.old (cut_lines file cut) sink.new) }
-    ensures part { IfErr result (λ fault. WrotePart S.wrote sink.old fault (cut_lines file cut) sink.new) }
+    ensures part { IfErr result
+        (λ fault. WrotePart S.wrote sink.old fault (cut_lines file cut) sink.new) }
 {
     if !cut {
         return Ok(());

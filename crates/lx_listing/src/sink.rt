@@ -39,7 +39,8 @@ pub trait LineSink {
         requires items { All (IsItemOf (kinds_of plan.now) (bytes_of plan.now file)) items.now }
         ensures draft { draft.new ≡ draft.old }
         ensures ok { OnOk result (wrote self.old (lines_of plan.now file items.now) self.new) }
-        ensures part { IfErr result (λ fault. WrotePart wrote self.old fault (lines_of plan.now file items.now) self.new) }
+        ensures part { IfErr result
+            (λ fault. WrotePart wrote self.old fault (lines_of plan.now file items.now) self.new) }
     {
         block.clear();
         let Ok(()) = draft.push_lines(block, plan, file, items) else {
@@ -72,7 +73,8 @@ impl<W: Write> LineSink for Owned<W> {
 
     ghost wrote_nothing = { λ s. appends_nothing (W.contents s.out) };
 
-    ghost wrote_on = { λ s t u xs ys f h. appends_both (W.contents s.out) (W.contents t.out) (W.contents u.out) xs ys f h };
+    ghost wrote_on = { λ s t u xs ys f h.
+        appends_both (W.contents s.out) (W.contents t.out) (W.contents u.out) xs ys f h };
 }
 
 /// A sink that borrows its writer. The writer stays the same one, so that its final contents are known. (It is the last field: the prover loses a
@@ -89,7 +91,9 @@ impl<'w, W: Write> LineSink for Lent<'w, W> {
     ghost use Rattle.std.proofs.Common.{refl, ◌∙◌};
     ghost use Rattle.lx_listing.specs.AppendingLaws.{appends_both, appends_nothing};
 
-    ghost wrote = { λ s bytes t. Appends (W.contents s.out.now) (W.contents t.out.now) bytes × (t.out.ghost_name ≡ s.out.ghost_name) };
+    ghost wrote = { λ s bytes t.
+        Appends (W.contents s.out.now) (W.contents t.out.now) bytes
+        × (t.out.ghost_name ≡ s.out.ghost_name) };
 
     fn write_lines(&mut self, block: &[u8]) -> Result<(), ReaderFault> {
         write_block(self.out, self.writes, block)
@@ -97,5 +101,9 @@ impl<'w, W: Write> LineSink for Lent<'w, W> {
 
     ghost wrote_nothing = { λ s. (appends_nothing (W.contents s.out.now), refl) };
 
-    ghost wrote_on = { λ s t u xs ys f h. (appends_both (W.contents s.out.now) (W.contents t.out.now) (W.contents u.out.now) xs ys f.0 h.0, h.1 ∙ f.1) };
+    ghost wrote_on = { λ s t u xs ys f h. (
+      appends_both (W.contents s.out.now) (W.contents t.out.now) (W.contents u.out.now) xs ys f.0
+          h.0,
+      h.1 ∙ f.1,
+    ) };
 }

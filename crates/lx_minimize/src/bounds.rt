@@ -26,8 +26,10 @@ pub(crate) struct StateRange {
 fn add_state(bounds: &mut Bounds, block: u16, state: u16)
     requires low { block < length bounds.old.lows.items }
     requires high { block < length bounds.old.highs.items }
-    ensures lows { bounds.new.lows.items ≡ slice_set bounds.old.lows.items block (min (slice_index bounds.old.lows.items block) state) }
-    ensures highs { bounds.new.highs.items ≡ slice_set bounds.old.highs.items block (max (slice_index bounds.old.highs.items block) state) }
+    ensures lows { bounds.new.lows.items ≡ slice_set bounds.old.lows.items block
+        (min (slice_index bounds.old.lows.items block) state) }
+    ensures highs { bounds.new.highs.items ≡ slice_set bounds.old.highs.items block
+        (max (slice_index bounds.old.highs.items block) state) }
 {
     let at = block as usize;
     bounds.lows[at] = bounds.lows[at].min(state);
@@ -68,7 +70,8 @@ pub(crate) fn range_of(states: &[u16]) -> StateRange
 /// Adds the bounds of a new block.
 pub(crate) fn add_bounds(bounds: &mut Bounds, range: StateRange) -> Result<(), AllocError>
     ensures lows { OnOk result (bounds.new.lows.items ≡ bounds.old.lows.items ++ range.low ∷ []) }
-    ensures highs { OnOk result (bounds.new.highs.items ≡ bounds.old.highs.items ++ range.high ∷ []) }
+    ensures highs { OnOk result
+        (bounds.new.highs.items ≡ bounds.old.highs.items ++ range.high ∷ []) }
 {
     bounds.lows.push(range.low)?;
     bounds.highs.push(range.high)?;

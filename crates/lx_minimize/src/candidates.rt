@@ -67,7 +67,8 @@ pub(crate) fn sources_into(
 ) -> Result<Vec<u16>, AllocError>
     requires complete { IsComplete m.now }
     requires listed { listed ≡ true → AreAllListed m.now predecessors.now }
-    requires members { (s : ℕ) → s < total m.now → flag inside.now s ≡ true → Contains members.now s }
+    requires members { (s : ℕ) → s < total m.now → flag inside.now s ≡ true
+        → Contains members.now s }
     requires class { class < m.now.width }
     ensures { IfOk result (λ states. ContainPreimage m.now inside.now class states.items) }
 {

@@ -30,8 +30,10 @@ pub(crate) fn next_of_block(blocks: &[u16], from: usize, end: usize, number: u16
     ensures state { IfSome result (λ s. s < end) }
     ensures behind { IfSome result (λ s. from ≤ s) }
     ensures within { IfSome result (λ s. slice_index blocks.now s ≡ number) }
-    ensures first { IfSome result (λ s. (t : ℕ) → from ≤ t → t < s → slice_index blocks.now t ≢ number) }
-    ensures none { IfNone result ((t : ℕ) → from ≤ t → t < end → slice_index blocks.now t ≢ number) }
+    ensures first { IfSome result
+        (λ s. (t : ℕ) → from ≤ t → t < s → slice_index blocks.now t ≢ number) }
+    ensures none { IfNone result
+        ((t : ℕ) → from ≤ t → t < end → slice_index blocks.now t ≢ number) }
 {
     let mut done = from;
     while LANES <= end - done {
@@ -67,8 +69,11 @@ pub(crate) fn members_between(
     requires small { length blocks.now ≤ max_complete_states }
     requires low { (s : ℕ) → s < length blocks.now → slice_index blocks.now s ≡ number → low ≤ s }
     requires high { (s : ℕ) → s < length blocks.now → slice_index blocks.now s ≡ number → s ≤ high }
-    ensures flags { IfOk result (λ members. AreFlags blocks.now number (length blocks.now) members.inside.items) }
-    ensures listed { IfOk result (λ members. (s : ℕ) → s < length blocks.now → flag members.inside.items s ≡ true → Contains members.states.items s) }
+    ensures flags { IfOk result
+        (λ members. AreFlags blocks.now number (length blocks.now) members.inside.items) }
+    ensures listed { IfOk result (λ members.
+        (s : ℕ) → s < length blocks.now → flag members.inside.items s ≡ true
+        → Contains members.states.items s) }
 {
     let mut inside = vec![in alloc; false; blocks.len()]?;
     let mut states = Vec::new(alloc);
@@ -85,8 +90,11 @@ pub(crate) fn members_between(
 /// Returns the states of a block.
 pub(crate) fn members_of(alloc: Global, blocks: &[u16], number: u16) -> Result<Members, AllocError>
     requires { length blocks.now ≤ max_complete_states }
-    ensures flags { IfOk result (λ members. AreFlags blocks.now number (length blocks.now) members.inside.items) }
-    ensures listed { IfOk result (λ members. (s : ℕ) → s < length blocks.now → flag members.inside.items s ≡ true → Contains members.states.items s) }
+    ensures flags { IfOk result
+        (λ members. AreFlags blocks.now number (length blocks.now) members.inside.items) }
+    ensures listed { IfOk result (λ members.
+        (s : ℕ) → s < length blocks.now → flag members.inside.items s ≡ true
+        → Contains members.states.items s) }
 {
     members_between(alloc, blocks, number, 0, u16::MAX)
 }

@@ -18,7 +18,8 @@ use std::alloc::{AllocError, Global};
 pub fn merge(alloc: Global, automaton: &Automaton) -> Result<Automaton, AllocError>
     ensures conditions { IfOk result (λ m. length m.starts ≡ length automaton.now.starts) }
     ensures answers { IfOk result (λ m. AreEquivalentMachines automaton.now m) }
-    ensures specification { IfOk result (λ m. (spec : PlainSpec) → IsAutomatonOf spec automaton.now → IsAutomatonOf spec m) }
+    ensures specification { IfOk result
+        (λ m. (spec : PlainSpec) → IsAutomatonOf spec automaton.now → IsAutomatonOf spec m) }
     ensures minimal { IfOk result (λ m. IsMinimal m) }
     ensures live { IfOk result (λ m. HasLiveSteps m) }
     ensures led_to { IfOk result (λ m. AreAllLedTo automaton.now → AreAllLedTo m) }

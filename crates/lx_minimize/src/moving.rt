@@ -56,7 +56,9 @@ fn moved_states_of_all(
     requires inside { length inside.now ≡ total m.now }
     requires blocks { length blocks.now ≡ total m.now }
     requires class { class < m.now.width }
-    ensures { IfOk result (λ moved_states. AreMovedStates m.now blocks.now inside.now from class wanted (total m.now) moved_states.items) }
+    ensures { IfOk result (λ moved_states.
+        AreMovedStates m.now blocks.now inside.now from class wanted (total m.now)
+        moved_states.items) }
 {
     let mut moved_states = Vec::new(alloc);
     let mut behind = 0;
@@ -85,7 +87,9 @@ fn moved_states_among(
     requires blocks { length blocks.now ≡ total m.now }
     requires states { (s : ℕ) → Contains states.now s → s < total m.now }
     requires class { class < m.now.width }
-    ensures { IfOk result (λ moved_states. AreMovedStatesAmong m.now blocks.now inside.now from class wanted states.now moved_states.items) }
+    ensures { IfOk result (λ moved_states.
+        AreMovedStatesAmong m.now blocks.now inside.now from class wanted states.now
+        moved_states.items) }
 {
     let mut moved_states = Vec::new(alloc);
     for i in 0..states.len() {
@@ -112,7 +116,9 @@ pub(crate) fn moved_states_of(
     requires blocks { length blocks.now ≡ total m.now }
     requires sources { ContainPreimage m.now inside.now class sources.now }
     requires class { class < m.now.width }
-    ensures { IfOk result (λ moved_states. AreMovedStates m.now blocks.now inside.now from class wanted (total m.now) moved_states.items) }
+    ensures { IfOk result (λ moved_states.
+        AreMovedStates m.now blocks.now inside.now from class wanted (total m.now)
+        moved_states.items) }
 {
     if wanted {
         return moved_states_among(alloc, m, blocks, inside, sources, from, class, true);
@@ -136,8 +142,10 @@ pub(crate) fn remaining_state_of(
     requires representative { representative < total m.now }
     requires class { class < m.now.width }
     ensures state { IfSome result (λ s. s < total m.now) }
-    ensures remaining_state { IfSome result (λ s. IsRemaining m.now blocks.now inside.now from class wanted s) }
-    ensures none { IfNone result ((s : ℕ) → s < total m.now → IsRemaining m.now blocks.now inside.now from class wanted s → ⊥) }
+    ensures remaining_state { IfSome result
+        (λ s. IsRemaining m.now blocks.now inside.now from class wanted s) }
+    ensures none { IfNone result ((s : ℕ) → s < total m.now
+        → IsRemaining m.now blocks.now inside.now from class wanted s → ⊥) }
 {
     let state = representative as usize;
     if blocks[state] == from && steps_into(m, inside, state, class) != wanted {
@@ -160,8 +168,10 @@ fn first_remaining_state(
     requires blocks { length blocks.now ≡ total m.now }
     requires class { class < m.now.width }
     ensures state { IfSome result (λ s. s < total m.now) }
-    ensures remaining_state { IfSome result (λ s. IsRemaining m.now blocks.now inside.now from class wanted s) }
-    ensures none { IfNone result ((s : ℕ) → s < total m.now → IsRemaining m.now blocks.now inside.now from class wanted s → ⊥) }
+    ensures remaining_state { IfSome result
+        (λ s. IsRemaining m.now blocks.now inside.now from class wanted s) }
+    ensures none { IfNone result ((s : ℕ) → s < total m.now
+        → IsRemaining m.now blocks.now inside.now from class wanted s → ⊥) }
 {
     let mut behind = 0;
     while let Some(state) = next_of_block(blocks, behind, blocks.len(), from) {
@@ -175,7 +185,8 @@ fn first_remaining_state(
 
 /// Gives the states of the list a number.
 pub(crate) fn renumber(blocks: &mut [u16], moved_states: &[u16], fresh: u16)
-    requires { (j : ℕ) → j < length moved_states.now → slice_index moved_states.now j < length blocks.old }
+    requires { (j : ℕ) → j < length moved_states.now
+        → slice_index moved_states.now j < length blocks.old }
     ensures { AreRenumbered blocks.old blocks.new moved_states.now fresh (length moved_states.now) }
 {
     for i in 0..moved_states.len() {
@@ -188,7 +199,9 @@ fn unstable_class(m: &Complete, p: &Partition, s: usize) -> Option<usize>
     requires complete { IsComplete m.now }
     requires sound { IsSound m.now p.now }
     requires state { s < total m.now }
-    ensures some { IfSome result (λ c. (c < m.now.width) × (block p.now (step_of m.now s c) ≢ block p.now (step_of m.now (member_of p.now (block p.now s)) c))) }
+    ensures some { IfSome result (λ c.
+        (c < m.now.width) × (block p.now (step_of m.now s c)
+        ≢ block p.now (step_of m.now (member_of p.now (block p.now s)) c))) }
     ensures none { IfNone result (StepsLikeRepresentative m.now p.now s m.now.width) }
 {
     let other = p.representatives[p.block_of[s] as usize] as usize;
@@ -206,7 +219,9 @@ pub(crate) fn first_unstable(m: &Complete, p: &Partition) -> Option<(usize, usiz
     requires sound { IsSound m.now p.now }
     ensures state { IfSome result (λ found. found.0 < total m.now) }
     ensures class { IfSome result (λ found. found.1 < m.now.width) }
-    ensures unstable { IfSome result (λ found. block p.now (step_of m.now found.0 found.1) ≢ block p.now (step_of m.now (member_of p.now (block p.now found.0)) found.1)) }
+    ensures unstable { IfSome result (λ found.
+        block p.now (step_of m.now found.0 found.1)
+        ≢ block p.now (step_of m.now (member_of p.now (block p.now found.0)) found.1)) }
     ensures stable { IfNone result (IsStable m.now p.now) }
 {
     for s in 0..m.labels.len() {

@@ -38,8 +38,10 @@ fn block_for(m: &Complete, representatives: &[u16], block_by_label: &[u16], stat
     requires state { state < total m.now }
     requires labels { AreBlocksByLabel m.now representatives.now block_by_label.now }
     ensures at_most { result ≤ length representatives.now }
-    ensures found { result < length representatives.now → label_of m.now (slice_index representatives.now result) ≡ label_of m.now state }
-    ensures fresh { result ≡ length representatives.now → (b : ℕ) → b < length representatives.now → label_of m.now (slice_index representatives.now b) ≢ label_of m.now state }
+    ensures found { result < length representatives.now
+        → label_of m.now (slice_index representatives.now result) ≡ label_of m.now state }
+    ensures fresh { result ≡ length representatives.now → (b : ℕ) → b < length representatives.now
+        → label_of m.now (slice_index representatives.now b) ≢ label_of m.now state }
 {
     let encoded = block_by_label[m.labels[state] as usize];
     if encoded == 0 {
@@ -60,11 +62,17 @@ fn push_state(
     requires state { state < total m.now }
     requires labelled { AreLabelledBelow m.now state blocks.old.items representatives.old.items }
     requires at_most { number ≤ length representatives.old.items }
-    requires found { number < length representatives.old.items → label_of m.now (slice_index representatives.old.items number) ≡ label_of m.now state }
-    requires fresh { number ≡ length representatives.old.items → (b : ℕ) → b < length representatives.old.items → label_of m.now (slice_index representatives.old.items b) ≢ label_of m.now state }
-    ensures labelled { OnOk result (AreLabelledBelow m.now (state + 1) blocks.new.items representatives.new.items) }
-    ensures same { number < length representatives.old.items → OnOk result (representatives.new.items ≡ representatives.old.items) }
-    ensures more { number ≡ length representatives.old.items → OnOk result (representatives.new.items ≡ representatives.old.items ++ state ∷ []) }
+    requires found { number < length representatives.old.items
+        → label_of m.now (slice_index representatives.old.items number) ≡ label_of m.now state }
+    requires fresh { number ≡ length representatives.old.items → (b : ℕ)
+        → b < length representatives.old.items
+        → label_of m.now (slice_index representatives.old.items b) ≢ label_of m.now state }
+    ensures labelled { OnOk result
+        (AreLabelledBelow m.now (state + 1) blocks.new.items representatives.new.items) }
+    ensures same { number < length representatives.old.items
+        → OnOk result (representatives.new.items ≡ representatives.old.items) }
+    ensures more { number ≡ length representatives.old.items
+        → OnOk result (representatives.new.items ≡ representatives.old.items ++ state ∷ []) }
 {
     blocks.push(number as u16)?;
     if number < representatives.len() {
@@ -86,8 +94,10 @@ fn add_state(
     requires state { state < total m.now }
     requires labelled { AreLabelledBelow m.now state blocks.old.items representatives.old.items }
     requires labels { AreBlocksByLabel m.now representatives.old.items block_by_label.old.items }
-    ensures labelled { OnOk result (AreLabelledBelow m.now (state + 1) blocks.new.items representatives.new.items) }
-    ensures labels { OnOk result (AreBlocksByLabel m.now representatives.new.items block_by_label.new.items) }
+    ensures labelled { OnOk result
+        (AreLabelledBelow m.now (state + 1) blocks.new.items representatives.new.items) }
+    ensures labels { OnOk result
+        (AreBlocksByLabel m.now representatives.new.items block_by_label.new.items) }
 {
     let number = block_for(m, representatives, block_by_label, state);
     if number < representatives.len() {
@@ -101,7 +111,8 @@ fn add_state(
 /// Returns all states in the blocks of their labels.
 fn labelled_states(alloc: Global, m: &Complete) -> Result<Partition, AllocError>
     requires { IsComplete m.now }
-    ensures { IfOk result (λ p. AreLabelledBelow m.now (total m.now) p.block_of.items p.representatives.items) }
+    ensures { IfOk result
+        (λ p. AreLabelledBelow m.now (total m.now) p.block_of.items p.representatives.items) }
 {
     let mut block_of = Vec::with_capacity(alloc, m.labels.len())?;
     let mut representatives = Vec::new(alloc);

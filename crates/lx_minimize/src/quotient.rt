@@ -68,7 +68,8 @@ fn has_dead_start(m: &Complete, p: &Partition, starts: &[(u32, u32)]) -> bool
 fn rows_of(alloc: Global, p: &Partition, dead: bool) -> Result<Vec<u16>, AllocError>
     requires { 0 < block_count p.now }
     ensures rows { IfOk result (λ rows. AreRowStates p.now rows.items) }
-    ensures count { IfOk result (λ rows. length rows.items + (if dead then 0 else 1) ≡ block_count p.now) }
+    ensures count { IfOk result
+        (λ rows. length rows.items + (if dead then 0 else 1) ≡ block_count p.now) }
 {
     let mut rows = Vec::from_slice(alloc, &p.representatives[1..])?;
     if dead {
@@ -102,7 +103,8 @@ fn add_row(
     requires row { i < length rows.now }
     requires states { (j : ℕ) → j < length rows.now → slice_index rows.now j < total m.now }
     requires targets { AreTargets m.now p.now rows.now targets.old.items (i * m.now.width) }
-    ensures { OnOk result (AreTargets m.now p.now rows.now targets.new.items ((i + 1) * m.now.width)) }
+    ensures { OnOk result
+        (AreTargets m.now p.now rows.now targets.new.items ((i + 1) * m.now.width)) }
 {
     for class in 0..m.width {
         targets.push(p.block_of[step(m, rows[i] as usize, class)])?;
@@ -120,7 +122,8 @@ fn targets_of(
     requires complete { IsComplete m.now }
     requires sound { IsSound m.now p.now }
     requires states { (j : ℕ) → j < length rows.now → slice_index rows.now j < total m.now }
-    ensures { IfOk result (λ targets. AreTargets m.now p.now rows.now targets.items (length rows.now * m.now.width)) }
+    ensures { IfOk result
+        (λ targets. AreTargets m.now p.now rows.now targets.items (length rows.now * m.now.width)) }
 {
     let mut targets = Vec::new(alloc);
     for i in 0..rows.len() {

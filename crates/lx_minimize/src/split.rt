@@ -45,9 +45,13 @@ fn divide(
     requires small { block_count p.old < 2 ^ 16 }
     requires from { from < block_count p.old }
     requires some { 0 < length moved_states.now }
-    requires below { (j : ℕ) → j < length moved_states.now → slice_index moved_states.now j < length p.old.block_of.items }
-    ensures representatives { OnOk result (p.new.representatives.items ≡ slice_set p.old.representatives.items from remaining_state ++ slice_index moved_states.now 0 ∷ []) }
-    ensures blocks { OnOk result (AreRenumbered p.old.block_of.items p.new.block_of.items moved_states.now (block_count p.old) (length moved_states.now)) }
+    requires below { (j : ℕ) → j < length moved_states.now
+        → slice_index moved_states.now j < length p.old.block_of.items }
+    ensures representatives { OnOk result (p.new.representatives.items
+        ≡ slice_set p.old.representatives.items from remaining_state
+        ++ slice_index moved_states.now 0 ∷ []) }
+    ensures blocks { OnOk result (AreRenumbered p.old.block_of.items p.new.block_of.items
+        moved_states.now (block_count p.old) (length moved_states.now)) }
 {
     let fresh = p.representatives.len() as u16;
     p.representatives[from] = remaining_state;
@@ -75,9 +79,11 @@ pub(crate) fn split(
     requires from { from < block_count p.old }
     requires class { class < m.now.width }
     ensures sound { OnOk result (IsSound m.now p.new) }
-    ensures count { IfOk result (λ moved. IfSome moved (λ _. block_count p.new ≡ block_count p.old + 1)) }
+    ensures count { IfOk result
+        (λ moved. IfSome moved (λ _. block_count p.new ≡ block_count p.old + 1)) }
     ensures divided { IfOk result (λ moved. IfSome moved (HasNewBlock p.old p.new)) }
-    ensures unsplit { IfOk result (λ moved. moved ≡ None → IsStableBlock m.now p.old.block_of.items inside.now from class) }
+    ensures unsplit { IfOk result
+        (λ moved. moved ≡ None → IsStableBlock m.now p.old.block_of.items inside.now from class) }
     ensures same { IfOk result (λ moved. moved ≡ None → p.new ≡ p.old) }
 {
     let wanted = side_of(m, inside, from, class, wanted);
@@ -128,9 +134,11 @@ fn split_slowly(
     requires from { from < block_count p.old }
     requires class { class < m.now.width }
     ensures sound { OnOk result (IsSound m.now p.new) }
-    ensures count { IfOk result (λ moved. IfSome moved (λ _. block_count p.new ≡ block_count p.old + 1)) }
+    ensures count { IfOk result
+        (λ moved. IfSome moved (λ _. block_count p.new ≡ block_count p.old + 1)) }
     ensures divided { IfOk result (λ moved. IfSome moved (HasNewBlock p.old p.new)) }
-    ensures unsplit { IfOk result (λ moved. moved ≡ None → IsStableBlock m.now p.old.block_of.items inside.now from class) }
+    ensures unsplit { IfOk result
+        (λ moved. moved ≡ None → IsStableBlock m.now p.old.block_of.items inside.now from class) }
     ensures same { IfOk result (λ moved. moved ≡ None → p.new ≡ p.old) }
 {
     let states = all_states(alloc, m.labels.len())?;
@@ -150,7 +158,8 @@ fn split_at(
     requires sound { IsSound m.now p.old }
     requires state { s < total m.now }
     requires class { class < m.now.width }
-    requires unstable { block p.old (step_of m.now s class) ≢ block p.old (step_of m.now (member_of p.old (block p.old s)) class) }
+    requires unstable { block p.old (step_of m.now s class)
+        ≢ block p.old (step_of m.now (member_of p.old (block p.old s)) class) }
     ensures sound { OnOk result (IsSound m.now p.new) }
     ensures more { OnOk result (block_count p.new ≡ block_count p.old + 1) }
 {

@@ -122,10 +122,13 @@ fn add_block(
     moved: u32,
     range: StateRange,
 ) -> Result<(), AllocError>
-    ensures pending { OnOk result (vec_len worklist.new.pending ≡ vec_len worklist.old.pending + 1) }
+    ensures pending { OnOk result
+        (vec_len worklist.new.pending ≡ vec_len worklist.old.pending + 1) }
     ensures touched { OnOk result (vec_len worklist.new.touched ≡ vec_len worklist.old.touched) }
-    ensures lows { OnOk result (worklist.new.bounds.lows.items ≡ worklist.old.bounds.lows.items ++ range.low ∷ []) }
-    ensures highs { OnOk result (worklist.new.bounds.highs.items ≡ worklist.old.bounds.highs.items ++ range.high ∷ []) }
+    ensures lows { OnOk result
+        (worklist.new.bounds.lows.items ≡ worklist.old.bounds.lows.items ++ range.low ∷ []) }
+    ensures highs { OnOk result
+        (worklist.new.bounds.highs.items ≡ worklist.old.bounds.highs.items ++ range.high ∷ []) }
 {
     if let Some(size) = worklist.sizes.get_mut(from) {
         *size = left;
@@ -155,7 +158,8 @@ fn split_touched(
     requires class { class < m.now.width }
     requires bounds { AreBounds p.old worklist.old.bounds }
     ensures sound { OnOk result (IsSound m.now p.new) }
-    ensures splits_left { OnOk result (splits_left m.now p.new worklist.new ≤ splits_left m.now p.old worklist.old) }
+    ensures splits_left { OnOk result
+        (splits_left m.now p.new worklist.new ≤ splits_left m.now p.old worklist.old) }
     ensures bounds { OnOk result (AreBounds p.new worklist.new.bounds) }
     ensures touched { OnOk result (vec_len worklist.new.touched ≡ vec_len worklist.old.touched) }
 {
@@ -194,7 +198,8 @@ fn split_by(
     requires class { class < m.now.width }
     requires bounds { AreBounds p.old worklist.old.bounds }
     ensures sound { OnOk result (IsSound m.now p.new) }
-    ensures splits_left { OnOk result (splits_left m.now p.new worklist.new ≤ splits_left m.now p.old worklist.old) }
+    ensures splits_left { OnOk result
+        (splits_left m.now p.new worklist.new ≤ splits_left m.now p.old worklist.old) }
     ensures bounds { OnOk result (AreBounds p.new worklist.new.bounds) }
 {
     count_hits(worklist, p, sources)?;
@@ -213,8 +218,12 @@ fn members_by(
 ) -> Result<Members, AllocError>
     requires small { length p.now.block_of.items ≤ max_complete_states }
     requires bounds { AreBounds p.now bounds.now }
-    ensures flags { IfOk result (λ members. AreFlags p.now.block_of.items block (length p.now.block_of.items) members.inside.items) }
-    ensures listed { IfOk result (λ members. (s : ℕ) → s < length p.now.block_of.items → flag members.inside.items s ≡ true → Contains members.states.items s) }
+    ensures flags { IfOk result (λ members.
+        AreFlags p.now.block_of.items block (length p.now.block_of.items)
+        members.inside.items) }
+    ensures listed { IfOk result (λ members.
+        (s : ℕ) → s < length p.now.block_of.items → flag members.inside.items s ≡ true
+        → Contains members.states.items s) }
 {
     let number = block as usize;
     if number < bounds.lows.len() && number < bounds.highs.len() {
@@ -240,7 +249,8 @@ fn split_all(
     requires listed { listed ≡ true → AreAllListed m.now predecessors.now }
     requires bounds { AreBounds p.old worklist.old.bounds }
     ensures sound { OnOk result (IsSound m.now p.new) }
-    ensures splits_left { OnOk result (splits_left m.now p.new worklist.new ≤ splits_left m.now p.old worklist.old) }
+    ensures splits_left { OnOk result
+        (splits_left m.now p.new worklist.new ≤ splits_left m.now p.old worklist.old) }
     ensures bounds { OnOk result (AreBounds p.new worklist.new.bounds) }
 {
     let Members { inside, states } = members_by(alloc, p, &worklist.bounds, block)?;

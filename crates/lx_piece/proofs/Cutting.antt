@@ -22,7 +22,7 @@ use Rattle.lx_piece.specs.Cutting.{Cutting, IsCutterOf, items_ahead}
 use Rattle.lx_piece.specs.Plans.{IsPlan, Planned, bytes_of, is_cut, items_of, kinds_of}
 use Rattle.lx_piece.specs.Pieces.{IsPieceBy, mark_of, part, piece_by, piece_count, pieces_of, top_number}
 
--- ---- a list as the part that was taken of it and the part that is left 
+-- ---- a list as the part that was taken of it and the part that is left
 --  if at least most + 1 items were taken, or all
 enough : (items left : List Item) (most : ℕ) → (length items < most + 1 → left ≡ []) → (take most items ≡ take most (items ++ left)) × (drop most items ++ left ≡ drop most (items ++ left))
 enough items left most end = elim (cases_lt (length items) (most + 1)) [
@@ -52,7 +52,7 @@ none_ahead None items left rest most is end whole =
     let short : length items - most ≡ 0 = sym (length-drop most items) ∙ ap length (sym is) in
     sym whole ∙ end (omega arith)
 
--- ---- the number of pieces 
+-- ---- the number of pieces
 --  at most k pieces, if no item follows them
 pub count_reached : (per_piece : ℕ) (items : List Item) (k : ℕ) → 0 < per_piece → 0 < k → drop (k * per_piece) items ≡ [] → piece_count per_piece items ≤ k
 count_reached per_piece items k some first none =
@@ -100,7 +100,7 @@ last_is per_piece items number (Some item) left false some rest end there h =
     let more = count_more per_piece items (number + 1) item left some (sym rest) in
     sym (ne_eqb (number + 1) (piece_count per_piece items) (λ e. absurd (omega arith)))
 
--- ---- the next piece 
+-- ---- the next piece
 --  after the last one there is none
 pub none_next : (plan : Planned) (cutter : Cutting) → 0 < plan.per_piece → IsCutterOf plan cutter → 0 < cutter.next → is_some cutter.ahead ≡ false → cutter.next ≡ pieces_of plan cutter.file
 none_next plan cutter some is first none =
@@ -123,7 +123,7 @@ next_there plan cutter some is ahead = at cutter.ahead ahead is.items
     at None h e = absurd (both_ways false refl h)
     at (Some item) h e = count_more plan.per_piece (items_of plan cutter.file) cutter.next item (items_left plan.table (bytes_of plan cutter.file) cutter.cursor) some (sym e)
 
--- ---- memory 
+-- ---- memory
 --  a cutter's memory is of the tables and the file by which it is asked for a piece
 pub remembers : (plan own : Planned) (file : ℕ) (table : Table) (text : List ℕ) (m : ScanMemory) → own ≡ plan → table ≡ plan.table → text ≡ bytes_of plan file → IsMemoryOf own.table (bytes_of own file) m → IsMemoryOf table text m
 remembers plan own file table text m same e f is = rw (e, f) (subst (λ (p : Planned). IsMemoryOf p.table (bytes_of p file) m) same is)

@@ -22,7 +22,8 @@ pub trait Arrivals {
     fn next(&mut self) -> Option<Piece>
         ensures plan { plan self.new ≡ plan self.old }
         ensures honest { IfSome result (λ p. IsHonest (plan self.old) p) }
-        ensures leads { MatchOption result (leads self.old [] self.new × has_ended self.new) (λ p. leads self.old (p ∷ []) self.new) };
+        ensures leads { MatchOption result (leads self.old [] self.new × has_ended self.new)
+            (λ p. leads self.old (p ∷ []) self.new) };
 
     ghost stays: { (s : Self) → leads s [] s };
 

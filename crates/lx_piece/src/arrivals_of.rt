@@ -23,7 +23,8 @@ pub trait ArrivalsOf<M: Maker> {
     fn next(&mut self) -> Option<Piece<M::Made>>
         ensures plan { plan self.new ≡ plan self.old }
         ensures honest { IfSome result (λ p. IsHonestBy M.made (plan self.old) p) }
-        ensures leads { MatchOption result (leads self.old [] self.new × has_ended self.new) (λ p. leads self.old (p ∷ []) self.new) };
+        ensures leads { MatchOption result (leads self.old [] self.new × has_ended self.new)
+            (λ p. leads self.old (p ∷ []) self.new) };
 
     /// Learns what the reader holds. Called after each arrival.
     fn hear(&mut self, _held: Held)

@@ -23,7 +23,8 @@ fn keep_in<C: Drop>(
     requires file { piece.file < length buffers.old.items }
     requires countable { piece.number < top_number }
     requires ready_set { IsReadySet buffers.old.items ready.old }
-    requires new { (buffer : Buffered C) → slice_get buffers.old.items piece.file ≡ Some buffer → has_number buffer piece.number ≡ false }
+    requires new { (buffer : Buffered C) → slice_get buffers.old.items piece.file ≡ Some buffer
+        → has_number buffer piece.number ≡ false }
     ensures ok { OnOk result (KeepsIn buffers.old.items piece buffers.new.items) }
     ensures err { IfErr result (λ back. (back ≡ piece) × (buffers.new.items ≡ buffers.old.items)) }
     ensures ready_set { IsReadySet buffers.new.items ready.new }
@@ -51,7 +52,9 @@ fn deliver_lowest<C: Drop>(
     ready: &mut ReadyFiles,
 ) -> Option<Piece<C>>
     requires { IsReadySet buffers.old.items ready.old }
-    ensures delivered { MatchOption result (NoneReady buffers.old.items × (buffers.new.items ≡ buffers.old.items)) (λ p. (file : ℕ) × Delivers buffers.old.items file p buffers.new.items) }
+    ensures delivered { MatchOption result
+        (NoneReady buffers.old.items × (buffers.new.items ≡ buffers.old.items))
+        (λ p. (file : ℕ) × Delivers buffers.old.items file p buffers.new.items) }
     ensures ready_set { IsReadySet buffers.new.items ready.new }
 {
     let file = ready.first()?;
@@ -96,7 +99,8 @@ impl Collector {
     pub fn new(alloc: Global, run: u64, files: u32) -> Result<Collector, AllocError>
         requires some { 0 < files }
         requires few { files ≤ max_files }
-        ensures kept { IfOk result (λ c. c ≡ record { run = run; buffers = replicate files fresh_buffer }) }
+        ensures kept { IfOk result
+            (λ c. c ≡ record { run = run; buffers = replicate files fresh_buffer }) }
         ensures stands { IfOk result (λ c. StandsFor c []) }
     {
         Collector::of(alloc, run, files)
@@ -108,7 +112,8 @@ impl<C: Drop> Collector<C> {
     pub fn of(alloc: Global, run: u64, files: u32) -> Result<Collector<C>, AllocError>
         requires some { 0 < files }
         requires few { files ≤ max_files }
-        ensures kept { IfOk result (λ c. c ≡ record { run = run; buffers = replicate files fresh_buffer }) }
+        ensures kept { IfOk result
+            (λ c. c ≡ record { run = run; buffers = replicate files fresh_buffer }) }
         ensures stands { IfOk result (λ c. StandsFor c []) }
     {
         Ok(Collector {
@@ -120,10 +125,13 @@ impl<C: Drop> Collector<C> {
 
     /// Returns the first cause against a piece.
     fn cause(&self, piece: &Piece<C>) -> Option<Why>
-        ensures first { (came : List (Piece C)) → StandsFor self.now came → result ≡ cause_by self.now came piece.now }
+        ensures first { (came : List (Piece C)) → StandsFor self.now came
+            → result ≡ cause_by self.now came piece.now }
         ensures file { IfNone result (piece.now.file < length self.now.buffers) }
         ensures countable { IfNone result (piece.now.number < top_number) }
-        ensures new { IfNone result ((buffer : Buffered C) → slice_get self.now.buffers piece.now.file ≡ Some buffer → has_number buffer piece.now.number ≡ false) }
+        ensures new { IfNone result ((buffer : Buffered C)
+            → slice_get self.now.buffers piece.now.file ≡ Some buffer
+            → has_number buffer piece.now.number ≡ false) }
     {
         if piece.run != self.run {
             return Some(Why::WrongRun);
@@ -142,8 +150,10 @@ impl<C: Drop> Collector<C> {
             (λ _. cause_by self.old came piece ≡ None)
             (λ refused. (refused.why ≡ Why.Memory) ⊎ (cause_by self.old came piece ≡ Some refused.why)) }
         // Memory is the last cause in the order.
-        ensures memory { (came : List (Piece C)) → StandsFor self.old came → IfErr result (λ refused. refused.why ≡ Why.Memory → cause_by self.old came piece ≡ None) }
-        ensures ok { (came : List (Piece C)) → StandsFor self.old came → OnOk result (StandsFor self.new (came ++ piece ∷ [])) }
+        ensures memory { (came : List (Piece C)) → StandsFor self.old came → IfErr result
+            (λ refused. refused.why ≡ Why.Memory → cause_by self.old came piece ≡ None) }
+        ensures ok { (came : List (Piece C)) → StandsFor self.old came
+            → OnOk result (StandsFor self.new (came ++ piece ∷ [])) }
         ensures kept { OnOk result (KeepsIn self.old.buffers piece self.new.buffers) }
         ensures run { self.new.run ≡ self.old.run }
         ensures err { IfErr result (λ refused. (refused.piece ≡ piece) × (self.new ≡ self.old)) }
@@ -162,9 +172,11 @@ impl<C: Drop> Collector<C> {
 
     /// Takes out the next piece of the lowest file that holds it, if there is one.
     pub fn deliver(&mut self) -> Option<Piece<C>>
-        ensures delivered { MatchOption result (NoneReady self.old.buffers × (self.new ≡ self.old)) (λ p. (file : ℕ) × Delivers self.old.buffers file p self.new.buffers) }
+        ensures delivered { MatchOption result (NoneReady self.old.buffers × (self.new ≡ self.old))
+            (λ p. (file : ℕ) × Delivers self.old.buffers file p self.new.buffers) }
         ensures run { self.new.run ≡ self.old.run }
-        ensures stands { (came : List (Piece C)) → StandsFor self.old came → StandsFor self.new came }
+        ensures stands { (came : List (Piece C)) → StandsFor self.old came
+            → StandsFor self.new came }
     {
         deliver_lowest(&mut self.buffers, &mut self.ready)
     }
@@ -172,7 +184,8 @@ impl<C: Drop> Collector<C> {
     /// Returns true once the closing piece of the file was delivered.
     pub fn is_closed(&self, file: u32) -> bool
         requires { file < length self.now.buffers }
-        ensures buffer { (buffer : Buffered C) → slice_get self.now.buffers file ≡ Some buffer → result ≡ is_buffer_closed buffer }
+        ensures buffer { (buffer : Buffered C) → slice_get self.now.buffers file ≡ Some buffer
+            → result ≡ is_buffer_closed buffer }
         ensures closed { (came : List (Piece C)) → StandsFor self.now came → IsTrue result ↔
             IsClosedBelow (accepted_by self.now came) file (slice_index (delivered_counts self.now) file) }
     {
@@ -183,7 +196,8 @@ impl<C: Drop> Collector<C> {
     /// Returns true once the closing piece of the file was delivered, if it is marked Cut.
     pub fn is_cut(&self, file: u32) -> bool
         requires { file < length self.now.buffers }
-        ensures buffer { (buffer : Buffered C) → slice_get self.now.buffers file ≡ Some buffer → result ≡ is_buffer_truncated buffer }
+        ensures buffer { (buffer : Buffered C) → slice_get self.now.buffers file ≡ Some buffer
+            → result ≡ is_buffer_truncated buffer }
         ensures cut { (came : List (Piece C)) → StandsFor self.now came → IsTrue result ↔
             IsTruncatedBelow (accepted_by self.now came) file (slice_index (delivered_counts self.now) file) }
     {
@@ -193,7 +207,8 @@ impl<C: Drop> Collector<C> {
 
     /// Returns true once the closing piece of each file was delivered.
     pub fn all_closed(&self) -> bool
-        ensures buffers { IsTrue result ↔ All (λ buffer. is_buffer_closed buffer ≡ true) self.now.buffers }
+        ensures buffers { IsTrue result
+            ↔ All (λ buffer. is_buffer_closed buffer ≡ true) self.now.buffers }
         ensures closed { (came : List (Piece C)) → StandsFor self.now came → IsTrue result ↔ ((file : ℕ) → file < length self.now.buffers →
             IsClosedBelow (accepted_by self.now came) file (slice_index (delivered_counts self.now) file)) }
     {

@@ -55,9 +55,13 @@ fn take_items(
     requires none { items.old ≡ [] }
     ensures in_text { IsInText tables.now text.now cursor.new }
     ensures memory { IsMemoryOf tables.now text.now memory.new }
-    ensures items { IfOk result (λ _. items.new ≡ take most (items_ahead tables.now text.now first cursor.old)) }
-    ensures rest { IfOk result (λ next. items_ahead tables.now text.now next cursor.new ≡ drop most (items_ahead tables.now text.now first cursor.old)) }
-    ensures end { IfOk result (λ next. IfNone next (drop most (items_ahead tables.now text.now first cursor.old) ≡ [])) }
+    ensures items { IfOk result
+        (λ _. items.new ≡ take most (items_ahead tables.now text.now first cursor.old)) }
+    ensures rest { IfOk result (λ next.
+        items_ahead tables.now text.now next cursor.new
+        ≡ drop most (items_ahead tables.now text.now first cursor.old)) }
+    ensures end { IfOk result
+        (λ next. IfNone next (drop most (items_ahead tables.now text.now first cursor.old) ≡ [])) }
 {
     let most = most as usize;
     push_some(first, items)?;
@@ -99,9 +103,12 @@ impl Model for Cutter {
 
     ghost Value = { Cutting };
 
-    ghost view = { λ s. record { plan = s.plan.value; file = s.file; next = s.number; cursor = s.cursor; ahead = s.ahead } };
+    ghost view = { λ s.
+        record
+        { plan = s.plan.value; file = s.file; next = s.number; cursor = s.cursor; ahead = s.ahead } };
 
-    ghost invariant = { λ s. IsMemoryOf s.plan.value.table (bytes_of s.plan.value s.file) s.memory };
+    ghost invariant = { λ s.
+        IsMemoryOf s.plan.value.table (bytes_of s.plan.value s.file) s.memory };
 }
 
 impl Cutter {

@@ -45,8 +45,11 @@ impl<T: Drop> From<AllocFailed<T>> for RelayFault {
 
 /// Offers an arrival to the collector. The only error is memory, and then nothing has changed.
 pub fn offer_to<C: Drop>(collector: &mut Collector<C>, piece: Piece<C>) -> Result<Reply, RelayFault>
-    ensures reply { (came : List (Piece C)) → StandsFor collector.old came → IfOk result (λ reply. reply ≡ reply_to (shape_of_kept collector.old) (accepted_of (shape_of_kept collector.old) came) piece) }
-    ensures stands { (came : List (Piece C)) → StandsFor collector.old came → OnOk result (StandsFor collector.new (came ++ piece ∷ [])) }
+    ensures reply { (came : List (Piece C)) → StandsFor collector.old came → IfOk result (λ reply.
+        reply ≡ reply_to (shape_of_kept collector.old)
+        (accepted_of (shape_of_kept collector.old) came) piece) }
+    ensures stands { (came : List (Piece C)) → StandsFor collector.old came
+        → OnOk result (StandsFor collector.new (came ++ piece ∷ [])) }
     ensures shape { shape_of_kept collector.new ≡ shape_of_kept collector.old }
     ensures counts { delivered_counts collector.new ≡ delivered_counts collector.old }
     ensures memory { IfErr result (λ fault. fault ≡ RelayFault.Memory) }
@@ -72,12 +75,18 @@ pub fn deliver_all<M: Maker, R: ReaderOf<M>>(
     requires countable { R.fault_count reader.old < top_number }
     ensures plan { R.plan reader.new ≡ R.plan reader.old }
     ensures follows { R.follows reader.old reader.new }
-    ensures stands { (came : List (Piece M.Made)) → StandsFor collector.old came → StandsFor collector.new came }
+    ensures stands { (came : List (Piece M.Made)) → StandsFor collector.old came
+        → StandsFor collector.new came }
     ensures shape { shape_of_kept collector.new ≡ shape_of_kept collector.old }
-    ensures ok { OnOk result ((R.counts reader.new ≡ delivered_counts collector.new) × NoneReady collector.new.buffers × (R.fault_count reader.new ≡ R.fault_count reader.old)) }
-    ensures err { OnErr result (AreAtMost (R.counts reader.new) (delivered_counts collector.new) × AreAtMost (R.counts reader.old) (R.counts reader.new)) }
-    ensures reader { result ≡ Err RelayFault.Reader → R.fault_count reader.old < R.fault_count reader.new }
-    ensures memory { result ≡ Err RelayFault.Memory → R.fault_count reader.new ≡ R.fault_count reader.old }
+    ensures ok { OnOk result ((R.counts reader.new ≡ delivered_counts collector.new)
+        × NoneReady collector.new.buffers
+        × (R.fault_count reader.new ≡ R.fault_count reader.old)) }
+    ensures err { OnErr result (AreAtMost (R.counts reader.new) (delivered_counts collector.new)
+        × AreAtMost (R.counts reader.old) (R.counts reader.new)) }
+    ensures reader { result ≡ Err RelayFault.Reader
+        → R.fault_count reader.old < R.fault_count reader.new }
+    ensures memory { result ≡ Err RelayFault.Memory
+        → R.fault_count reader.new ≡ R.fault_count reader.old }
 {
     while let Some(piece) = collector.deliver() {
         match reader.take(piece) {

@@ -38,7 +38,9 @@ impl<'a, M: Maker, T: Taker<M>> InOrder<'a, M, T> {
         requires plan { T.plan taker ≡ plan.now }
         requires turn { T.turn taker ≡ first_turn }
         ensures valid { IsPlan plan.now }
-        ensures ok { IfOk result (λ order. order ≡ record { taker = taker; counts = replicate (files_of plan.now) 0; faults = 0; failed = false }) }
+        ensures ok { IfOk result (λ order.
+            order ≡ record
+            { taker = taker; counts = replicate (files_of plan.now) 0; faults = 0; failed = false }) }
         ensures back { IfErr result (λ refused. refused.value ≡ taker) }
     {
         match TurnQueue::new(alloc, plan, taker) {
@@ -79,7 +81,8 @@ impl<'a, M: Maker, T: Taker<M>> ReaderOf<M> for InOrder<'a, M, T> {
         ensures working { OnOk result (self.new.failed ≡ false) }
         ensures stopped { self.old.failed ≡ true → result ≡ Err ReaderFault.Device }
         // The taker's effect if it failed.
-        ensures fell { self.old.failed ≡ false → IfErr result (λ fault. T.fails self.old.taker fault self.new.taker) }
+        ensures fell { self.old.failed ≡ false
+            → IfErr result (λ fault. T.fails self.old.taker fault self.new.taker) }
     {
         self.queue.take(self.plan, piece)
     }

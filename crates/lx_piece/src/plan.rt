@@ -33,9 +33,13 @@ impl Model for Plan {
 
     ghost Value = { Planned };
 
-    ghost view = { λ s. record { run = s.run; per_piece = s.per_piece; table = s.tables; inputs = map input_view s.files.items } };
+    ghost view = { λ s.
+        record
+        { run = s.run; per_piece = s.per_piece; table = s.tables; inputs = map input_view s.files.items } };
 
-    ghost invariant = { λ s. IsPlan (record { run = s.run; per_piece = s.per_piece; table = s.tables; inputs = map input_view s.files.items }) };
+    ghost invariant = { λ s.
+        IsPlan (record
+        { run = s.run; per_piece = s.per_piece; table = s.tables; inputs = map input_view s.files.items }) };
 }
 
 impl Plan {
@@ -46,7 +50,8 @@ impl Plan {
         requires few_files { vec_len files ≤ max_files }
         requires some_items { 0 < per_piece }
         requires few_items { per_piece ≤ max_items }
-        ensures parts { result ≡ record { run = run; per_piece = per_piece; table = tables; inputs = map input_view files.items } }
+        ensures parts { result ≡ record
+            { run = run; per_piece = per_piece; table = tables; inputs = map input_view files.items } }
         ensures plan { IsPlan result }
     {
         // laws: the plan's items are well formed

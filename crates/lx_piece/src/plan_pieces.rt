@@ -29,7 +29,8 @@ fn cut_next<M: Maker>(
     ensures ok { IfOk result (λ next. MatchOption next
         ((pieces_before M.made plan.now cutter.new ≡ pieces_before M.made plan.now cutter.old) × (pieces_before M.made plan.now cutter.new ≡ pieces_below M.made plan.now (files_of plan.now)))
         (λ piece. IsPieceBy M.made plan.now piece × (pieces_before M.made plan.now cutter.new ≡ pieces_before M.made plan.now cutter.old ++ piece ∷ []))) }
-    ensures err { OnErr result (pieces_before M.made plan.now cutter.new ≡ pieces_before M.made plan.now cutter.old) }
+    ensures err { OnErr result
+        (pieces_before M.made plan.now cutter.new ≡ pieces_before M.made plan.now cutter.old) }
 {
     if let Some(piece) = cutter.next_made(plan, maker)? {
         return Ok(Some(piece));
@@ -62,7 +63,9 @@ impl<'a, M: Maker> Model for PlanPieces<'a, M> {
 
     ghost Value = { CutSoFar M.Made };
 
-    ghost view = { λ s. record { plan = s.plan.now; cut = pieces_before M.made s.plan.now s.cutter; refused = s.refused } };
+    ghost view = { λ s.
+        record
+        { plan = s.plan.now; cut = pieces_before M.made s.plan.now s.cutter; refused = s.refused } };
 
     ghost invariant = { λ s. IsCutterOf s.plan.now s.cutter × (s.cutter.file ≡ s.file) };
 }
@@ -100,7 +103,8 @@ impl<'a, M: Maker> ArrivalsOf<M> for PlanPieces<'a, M> {
 
     ghost leads = { Cuts };
 
-    ghost has_ended = { λ s. (s.refused ≡ true) ⊎ (s.cut ≡ pieces_below M.made s.plan (files_of s.plan)) };
+    ghost has_ended = { λ s.
+        (s.refused ≡ true) ⊎ (s.cut ≡ pieces_below M.made s.plan (files_of s.plan)) };
 
     fn next(&mut self) -> Option<Piece<M::Made>> {
         if self.refused {
@@ -140,7 +144,8 @@ pub fn relay_plan<M: Maker + Drop, R: ReaderOf<M>>(
     ensures taken { TakesAllInOrder plan.now (R.counts reader.new) }
     ensures follows { R.follows reader.old reader.new }
     ensures plan { R.plan reader.new ≡ R.plan reader.old }
-    ensures reader_fault { result ≡ Err RelayFault.Reader → R.fault_count reader.old < R.fault_count reader.new }
+    ensures reader_fault { result ≡ Err RelayFault.Reader
+        → R.fault_count reader.old < R.fault_count reader.new }
     ensures no_fault { OnOk result (R.fault_count reader.new ≡ R.fault_count reader.old) }
 {
     // a law: there is a first file

@@ -52,10 +52,13 @@ pub trait Reader {
         requires countable { fault_count self.old < top_number }
         ensures plan { plan self.new ≡ plan self.old }
         ensures follows { follows self.old self.new }
-        ensures ok { OnOk result (counts self.new ≡ slice_set (counts self.old) piece.file (slice_index (counts self.old) piece.file + 1)) }
+        ensures ok { OnOk result (counts self.new ≡ slice_set (counts self.old) piece.file
+            (slice_index (counts self.old) piece.file + 1)) }
         ensures err { OnErr result (counts self.new ≡ counts self.old) }
-        ensures device { result ≡ Err ReaderFault.Device → fault_count self.new ≡ fault_count self.old + 1 }
-        ensures memory { result ≡ Err ReaderFault.Memory → fault_count self.new ≡ fault_count self.old }
+        ensures device { result ≡ Err ReaderFault.Device
+            → fault_count self.new ≡ fault_count self.old + 1 }
+        ensures memory { result ≡ Err ReaderFault.Memory
+            → fault_count self.new ≡ fault_count self.old }
         ensures no_fault { OnOk result (fault_count self.new ≡ fault_count self.old) };
 
     /// Returns the number of failures of its device.

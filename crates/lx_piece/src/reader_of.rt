@@ -28,10 +28,13 @@ pub trait ReaderOf<M: Maker> {
         requires countable { fault_count self.old < top_number }
         ensures plan { plan self.new ≡ plan self.old }
         ensures follows { follows self.old self.new }
-        ensures ok { OnOk result (counts self.new ≡ slice_set (counts self.old) piece.file (slice_index (counts self.old) piece.file + 1)) }
+        ensures ok { OnOk result (counts self.new ≡ slice_set (counts self.old) piece.file
+            (slice_index (counts self.old) piece.file + 1)) }
         ensures err { OnErr result (counts self.new ≡ counts self.old) }
-        ensures device { result ≡ Err ReaderFault.Device → fault_count self.new ≡ fault_count self.old + 1 }
-        ensures memory { result ≡ Err ReaderFault.Memory → fault_count self.new ≡ fault_count self.old }
+        ensures device { result ≡ Err ReaderFault.Device
+            → fault_count self.new ≡ fault_count self.old + 1 }
+        ensures memory { result ≡ Err ReaderFault.Memory
+            → fault_count self.new ≡ fault_count self.old }
         ensures no_fault { OnOk result (fault_count self.new ≡ fault_count self.old) };
 
     /// Returns the number of failures of its device.
@@ -63,10 +66,13 @@ impl<R: Reader> ReaderOf<KeepItems> for R {
         requires countable { R.fault_count self.old < top_number }
         ensures plan { R.plan self.new ≡ R.plan self.old }
         ensures follows { R.follows self.old self.new }
-        ensures ok { OnOk result (R.counts self.new ≡ slice_set (R.counts self.old) piece.file (slice_index (R.counts self.old) piece.file + 1)) }
+        ensures ok { OnOk result (R.counts self.new ≡ slice_set (R.counts self.old) piece.file
+            (slice_index (R.counts self.old) piece.file + 1)) }
         ensures err { OnErr result (R.counts self.new ≡ R.counts self.old) }
-        ensures device { result ≡ Err ReaderFault.Device → R.fault_count self.new ≡ R.fault_count self.old + 1 }
-        ensures memory { result ≡ Err ReaderFault.Memory → R.fault_count self.new ≡ R.fault_count self.old }
+        ensures device { result ≡ Err ReaderFault.Device
+            → R.fault_count self.new ≡ R.fault_count self.old + 1 }
+        ensures memory { result ≡ Err ReaderFault.Memory
+            → R.fault_count self.new ≡ R.fault_count self.old }
         ensures no_fault { OnOk result (R.fault_count self.new ≡ R.fault_count self.old) }
     {
         Reader::take(self, piece)

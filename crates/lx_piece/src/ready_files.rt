@@ -39,7 +39,8 @@ impl ReadyFiles {
     /// Returns the lowest file, if there is one.
     pub(crate) fn first(&self) -> Option<u32>
         ensures member { IfSome result (λ file. has_file self.now file ≡ true) }
-        ensures least { IfSome result (λ file. (other : ℕ) → has_file self.now other ≡ true → file ≤ other) }
+        ensures least { IfSome result
+            (λ file. (other : ℕ) → has_file self.now other ≡ true → file ≤ other) }
         ensures none { IfNone result ((file : ℕ) → has_file self.now file ≡ false) }
     {
         self.lowest
@@ -47,7 +48,8 @@ impl ReadyFiles {
 
     /// Adds a file. If an allocation fails, nothing changes.
     pub(crate) fn insert(&mut self, file: u32) -> Result<(), AllocError>
-        ensures ok { OnOk result ((other : ℕ) → has_file self.new other ≡ (other == file || has_file self.old other)) }
+        ensures ok { OnOk result
+            ((other : ℕ) → has_file self.new other ≡ (other == file || has_file self.old other)) }
         ensures err { OnErr result (self.new ≡ self.old) }
     {
         match self.lowest {
@@ -67,7 +69,8 @@ impl ReadyFiles {
 
     /// Removes a file.
     pub(crate) fn remove(&mut self, file: u32)
-        ensures { (other : ℕ) → has_file self.new other ≡ (if other == file then false else has_file self.old other) }
+        ensures { (other : ℕ)
+            → has_file self.new other ≡ (if other == file then false else has_file self.old other) }
     {
         if self.lowest == Some(file) {
             self.lowest = self.others.pop_first();

@@ -28,16 +28,21 @@ pub fn relay<A: Arrivals, R: Reader>(
     // All arrivals came. The replies are those to the list of arrivals. Of each file the reader took the pieces below the least number that wasn't
     // accepted.
     ensures ended { OnOk result (A.has_ended arrivals.new) }
-    ensures ok { IfOk result (λ replies. Relayed plan.now (λ came. A.leads arrivals.old came arrivals.new) replies.items (R.counts reader.new)) }
+    ensures ok { IfOk result (λ replies.
+        Relayed plan.now (λ came. A.leads arrivals.old came arrivals.new) replies.items
+        (R.counts reader.new)) }
 
     // After a fault the reader took at most the ready pieces of the arrivals that came. It took all those that were ready before the last arrival,
     // because each ready piece is delivered before the next arrival comes.
-    ensures err { OnErr result (RelayedInPart plan.now (λ came. A.leads arrivals.old came arrivals.new) (R.counts reader.new)) }
+    ensures err { OnErr result (RelayedInPart plan.now
+        (λ came. A.leads arrivals.old came arrivals.new) (R.counts reader.new)) }
     ensures follows { R.follows reader.old reader.new }
     ensures plan { R.plan reader.new ≡ R.plan reader.old }
     ensures arrivals_plan { A.plan arrivals.new ≡ A.plan arrivals.old }
-    ensures reader_fault { result ≡ Err RelayFault.Reader → R.fault_count reader.old < R.fault_count reader.new }
-    ensures memory { result ≡ Err RelayFault.Memory → R.fault_count reader.new ≡ R.fault_count reader.old }
+    ensures reader_fault { result ≡ Err RelayFault.Reader
+        → R.fault_count reader.old < R.fault_count reader.new }
+    ensures memory { result ≡ Err RelayFault.Memory
+        → R.fault_count reader.new ≡ R.fault_count reader.old }
     ensures no_fault { OnOk result (R.fault_count reader.new ≡ R.fault_count reader.old) }
 {
     relay_of::<KeepItems, A, R>(alloc, plan, arrivals, reader)
@@ -58,16 +63,21 @@ pub fn relay_of<M: Maker, A: ArrivalsOf<M>, R: ReaderOf<M>>(
     // All arrivals came. The replies are those to the list of arrivals. Of each file the reader took the pieces below the least number that wasn't
     // accepted.
     ensures ended { OnOk result (A.has_ended arrivals.new) }
-    ensures ok { IfOk result (λ replies. RelayedBy M.made plan.now (λ came. A.leads arrivals.old came arrivals.new) replies.items (R.counts reader.new)) }
+    ensures ok { IfOk result (λ replies.
+        RelayedBy M.made plan.now (λ came. A.leads arrivals.old came arrivals.new) replies.items
+        (R.counts reader.new)) }
 
     // After a fault the reader took at most the ready pieces of the arrivals that came. It took all those that were ready before the last arrival,
     // because each ready piece is delivered before the next arrival comes.
-    ensures err { OnErr result (RelayedInPartBy M.made plan.now (λ came. A.leads arrivals.old came arrivals.new) (R.counts reader.new)) }
+    ensures err { OnErr result (RelayedInPartBy M.made plan.now
+        (λ came. A.leads arrivals.old came arrivals.new) (R.counts reader.new)) }
     ensures follows { R.follows reader.old reader.new }
     ensures plan { R.plan reader.new ≡ R.plan reader.old }
     ensures arrivals_plan { A.plan arrivals.new ≡ A.plan arrivals.old }
-    ensures reader_fault { result ≡ Err RelayFault.Reader → R.fault_count reader.old < R.fault_count reader.new }
-    ensures memory { result ≡ Err RelayFault.Memory → R.fault_count reader.new ≡ R.fault_count reader.old }
+    ensures reader_fault { result ≡ Err RelayFault.Reader
+        → R.fault_count reader.old < R.fault_count reader.new }
+    ensures memory { result ≡ Err RelayFault.Memory
+        → R.fault_count reader.new ≡ R.fault_count reader.old }
     ensures no_fault { OnOk result (R.fault_count reader.new ≡ R.fault_count reader.old) }
 {
     let mut collector = Collector::of(alloc, plan.run(), plan.files())?;

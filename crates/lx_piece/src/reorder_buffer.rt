@@ -46,7 +46,9 @@ impl<C> Model for ReorderBuffer<C> {
 
     ghost Value = { Buffered C };
 
-    ghost view = { λ s. record { next = s.next; closing = s.closing; truncated = s.truncated; held = with_next s.next s.ready s.later.entries } };
+    ghost view = { λ s.
+        record
+        { next = s.next; closing = s.closing; truncated = s.truncated; held = with_next s.next s.ready s.later.entries } };
 
     ghost invariant = { λ s.
         ((n : ℕ) → IsSome (get nat_cmp s.later n) → n < top_number)
@@ -87,7 +89,8 @@ impl<C: Drop> ReorderBuffer<C> {
     /// Returns true if a piece of a greater number is held. The piece of this number wasn't delivered.
     fn holds_later(&self, number: u64) -> bool
         requires { self.now.next ≤ number }
-        ensures yes { IsTrue result → (later : ℕ) × (number < later) × IsSome (held_at self.now later) }
+        ensures yes { IsTrue result
+            → (later : ℕ) × (number < later) × IsSome (held_at self.now later) }
         ensures no { result ≡ false → (later : ℕ) → number < later → held_at self.now later ≡ None }
     {
         match self.later.last_key_value() {
@@ -98,7 +101,9 @@ impl<C: Drop> ReorderBuffer<C> {
 
     /// Returns the first cause against a piece of this file.
     pub(crate) fn cause(&self, piece: &Piece<C>) -> Option<Why>
-        ensures first { (accepted : List (Piece C)) → BufferStandsFor self.now piece.now.file accepted → result ≡ cause_among accepted piece.now }
+        ensures first { (accepted : List (Piece C))
+            → BufferStandsFor self.now piece.now.file accepted
+            → result ≡ cause_among accepted piece.now }
         ensures countable { IfNone result (piece.now.number < top_number) }
         ensures new { IfNone result (has_number self.now piece.now.number ≡ false) }
     {

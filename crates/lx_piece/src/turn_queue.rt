@@ -38,9 +38,12 @@ impl<M: Maker, T: Taker<M>> Model for TurnQueue<M, T> {
 
     ghost Value = { Passing T };
 
-    ghost view = { λ s. record { taker = s.taker; counts = s.counts.items; faults = s.faults; failed = s.failed } };
+    ghost view = { λ s.
+        record { taker = s.taker; counts = s.counts.items; faults = s.faults; failed = s.failed } };
 
-    ghost invariant = { λ s. IsInOrder M.made (T.plan s.taker) (T.turn s.taker) s.counts.items s.first (queued s.waiting.items) s.failed };
+    ghost invariant = { λ s.
+        IsInOrder M.made (T.plan s.taker) (T.turn s.taker) s.counts.items s.first
+        (queued s.waiting.items) s.failed };
 }
 
 // Makes an empty queue for each file.
@@ -60,7 +63,9 @@ impl<M: Maker, T: Taker<M>> TurnQueue<M, T> {
         requires plan { T.plan taker ≡ plan.now }
         requires turn { T.turn taker ≡ first_turn }
         ensures valid { IsPlan plan.now }
-        ensures ok { IfOk result (λ queue. queue ≡ record { taker = taker; counts = replicate (files_of plan.now) 0; faults = 0; failed = false }) }
+        ensures ok { IfOk result (λ queue.
+            queue ≡ record
+            { taker = taker; counts = replicate (files_of plan.now) 0; faults = 0; failed = false }) }
         ensures back { IfErr result (λ refused. refused.value ≡ taker) }
     {
         let files = plan.files();
@@ -104,7 +109,8 @@ impl<M: Maker, T: Taker<M>> TurnQueue<M, T> {
         ensures working { OnOk result (self.new.failed ≡ false) }
         ensures stopped { self.old.failed ≡ true → result ≡ Err ReaderFault.Device }
         // The taker's effect if it failed.
-        ensures fell { self.old.failed ≡ false → IfErr result (λ fault. T.fails self.old.taker fault self.new.taker) }
+        ensures fell { self.old.failed ≡ false
+            → IfErr result (λ fault. T.fails self.old.taker fault self.new.taker) }
     {
         if self.failed {
             self.faults += 1;

@@ -26,8 +26,10 @@ fn take_queue<M: Maker, T: Taker<M>>(
     requires queue { AreFirstPieces M.made (T.plan taker.old) file queue.old.items }
     requires turn { T.turn taker.old ≡ record { file = file; number = 0 } }
     ensures plan { T.plan taker.new ≡ T.plan taker.old }
-    ensures closed { IfOk result (λ closed. closed ≡ (length queue.old.items == pieces_of (T.plan taker.old) file)) }
-    ensures turn { OnOk result (T.turn taker.new ≡ turn_at (T.plan taker.old) file (length queue.old.items)) }
+    ensures closed { IfOk result
+        (λ closed. closed ≡ (length queue.old.items == pieces_of (T.plan taker.old) file)) }
+    ensures turn { OnOk result
+        (T.turn taker.new ≡ turn_at (T.plan taker.old) file (length queue.old.items)) }
     ensures follows { OnOk result (T.follows taker.old taker.new) }
     ensures fails { IfErr result (λ fault. T.fails taker.old fault taker.new) }
 {
@@ -54,7 +56,9 @@ fn take_waiting<M: Maker, T: Taker<M>>(
     requires waits { Waits M.made (T.plan taker.old) from (queued waiting.old.items) }
     requires turn { T.turn taker.old ≡ record { file = from; number = 0 } }
     ensures plan { T.plan taker.new ≡ T.plan taker.old }
-    ensures took { IfOk result (λ next. TookWaiting (T.plan taker.old) from (queued waiting.old.items) next (queued waiting.new.items) (T.turn taker.new)) }
+    ensures took { IfOk result (λ next.
+        TookWaiting (T.plan taker.old) from (queued waiting.old.items) next
+        (queued waiting.new.items) (T.turn taker.new)) }
     ensures follows { OnOk result (T.follows taker.old taker.new) }
     ensures fails { IfErr result (λ fault. T.fails taker.old fault taker.new) }
 {
@@ -104,7 +108,9 @@ pub fn place<M: Maker, T: Taker<M>>(
 ) -> Result<u32, ReaderFault>
     requires same { plan.now ≡ T.plan taker.old }
     requires plan { IsPlan (T.plan taker.old) }
-    requires next { (counts : List ℕ) × KeepsUp M.made (T.plan taker.old) (T.turn taker.old) counts first (queued waiting.old.items) × IsNextPieceBy M.made (T.plan taker.old) counts piece }
+    requires next { (counts : List ℕ)
+        × KeepsUp M.made (T.plan taker.old) (T.turn taker.old) counts first
+        (queued waiting.old.items) × IsNextPieceBy M.made (T.plan taker.old) counts piece }
     ensures plan { T.plan taker.new ≡ T.plan taker.old }
     ensures placed { (counts : List ℕ) → KeepsUp M.made (T.plan taker.old) (T.turn taker.old) counts first (queued waiting.old.items) → IsNextPieceBy M.made (T.plan taker.old) counts piece →
         IfOk result (λ next. KeepsUp M.made (T.plan taker.old) (T.turn taker.new) (counted counts piece.file) next (queued waiting.new.items)) }

@@ -17,7 +17,7 @@ use Rattle.lx_ere.specs.Matching.{Splits, Repeats, RepeatsBetween, Matches}
 use Rattle.lx_plain.specs.Places.{Between, IsReached, AreEnds, AreWithin, AnyNumber, AtMost, AreBehind, AreLengths, is_byte_at}
 use Rattle.lx_plain.proofs.SetLemmas.{is_empty, at_number}
 
--- ---- words 
+-- ---- words
 --  a word of m + n repeats is one of m, followed by one of n
 pub repeats_join : (L : List ℕ → Type 0) (m n : ℕ) (u v : List ℕ) → Repeats L m u → Repeats L n v → Repeats L (m + n) (u ++ v)
 repeats_join L zero n u v e r = let h : 0 + n ≡ n = omega arith in let g : u ≡ [] = e in rw (h, g) r

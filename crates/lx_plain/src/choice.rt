@@ -48,7 +48,9 @@ fn lengths(
     expr: &Expr,
     text: &[u8],
 ) -> Result<BTreeSet<usize>, AllocError>
-    ensures { IfOk result (λ found. AreLengths (Matches (SpecNames (spec_view spec.now)) (regex_of expr.now)) text.now found) }
+    ensures { IfOk result (λ found.
+        AreLengths (Matches (SpecNames (spec_view spec.now)) (regex_of expr.now)) text.now
+        found) }
 {
     let front = front(alloc)?;
     ends(alloc, &spec.definitions, NESTING, expr, text, &front)
@@ -57,14 +59,16 @@ fn lengths(
 // Returns true if a fit of the rule may begin here: under this condition, at the start of a line or not.
 fn may_begin(spec: &Spec, rule: &Rule, condition: u16, begin: bool) -> bool
     requires { condition < length (spec_view spec.now).conditions }
-    ensures { IsTrue result ↔ (IsActive (spec_view spec.now) (rule_view rule.now) condition × (IsTrue (rule_view rule.now).reading.line_begin → IsTrue begin)) }
+    ensures { IsTrue result ↔ (IsActive (spec_view spec.now) (rule_view rule.now) condition
+        × (IsTrue (rule_view rule.now).reading.line_begin → IsTrue begin)) }
 {
     is_active(spec, rule, condition) && (begin || !rule.pattern.line_begin)
 }
 
 // Returns true if a fit of the rule may end after n bytes.
 fn may_end(rule: &Rule, text: &[u8], n: usize) -> bool
-    ensures { IsTrue result ↔ ((0 < n) × (IsTrue (rule_view rule.now).reading.line_end → slice_get text.now n ≡ Some 10)) }
+    ensures { IsTrue result ↔ ((0 < n)
+        × (IsTrue (rule_view rule.now).reading.line_end → slice_get text.now n ≡ Some 10)) }
 {
     n > 0 && (!rule.pattern.line_end || text.get(n) == Some(&b'\n'))
 }
@@ -79,7 +83,8 @@ pub(crate) fn longest(
     text: &[u8],
 ) -> Result<Option<usize>, AllocError>
     requires { condition < length (spec_view spec.now).conditions }
-    ensures { IfOk result (IsLongest (spec_view spec.now) (rule_view rule.now) condition begin text.now) }
+    ensures { IfOk result
+        (IsLongest (spec_view spec.now) (rule_view rule.now) condition begin text.now) }
 {
     if !may_begin(spec, rule, condition, begin) {
         return Ok(None);

@@ -24,7 +24,9 @@ pub(crate) fn ends(
     starts: &BTreeSet<usize>,
 ) -> Result<BTreeSet<usize>, AllocError>
     requires { AreWithin text.now starts.now }
-    ensures { IfOk result (λ ends. AreEnds (Matches (NameMatches (map definition_view definitions.now) depth) (regex_of expr.now)) text.now starts.now ends) }
+    ensures { IfOk result (λ ends.
+        AreEnds (Matches (NameMatches (map definition_view definitions.now) depth)
+        (regex_of expr.now)) text.now starts.now ends) }
 {
     // otherwise nested intervals, and names that double, would be followed many times for nothing
     if starts.is_empty() {
@@ -67,7 +69,9 @@ fn exactly(
     starts: &BTreeSet<usize>,
 ) -> Result<BTreeSet<usize>, AllocError>
     requires { AreWithin text.now starts.now }
-    ensures { IfOk result (λ ends. AreEnds (Repeats (Matches (NameMatches (map definition_view definitions.now) depth) (regex_of body.now)) count) text.now starts.now ends) }
+    ensures { IfOk result (λ ends.
+        AreEnds (Repeats (Matches (NameMatches (map definition_view definitions.now) depth)
+        (regex_of body.now)) count) text.now starts.now ends) }
 {
     let mut places = copy_of(starts)?;
     for _round in 0..count {
@@ -88,7 +92,9 @@ fn at_most(
     starts: &BTreeSet<usize>,
 ) -> Result<BTreeSet<usize>, AllocError>
     requires { AreWithin text.now starts.now }
-    ensures { IfOk result (λ ends. AreEnds (AtMost (Matches (NameMatches (map definition_view definitions.now) depth) (regex_of body.now)) most) text.now starts.now ends) }
+    ensures { IfOk result (λ ends.
+        AreEnds (AtMost (Matches (NameMatches (map definition_view definitions.now) depth)
+        (regex_of body.now)) most) text.now starts.now ends) }
 {
     let mut reached = copy_of(starts)?;
     let mut places = copy_of(starts)?;
@@ -110,7 +116,9 @@ fn any_number(
     starts: &BTreeSet<usize>,
 ) -> Result<BTreeSet<usize>, AllocError>
     requires { AreWithin text.now starts.now }
-    ensures { IfOk result (λ ends. AreEnds (AnyNumber (Matches (NameMatches (map definition_view definitions.now) depth) (regex_of body.now))) text.now starts.now ends) }
+    ensures { IfOk result (λ ends.
+        AreEnds (AnyNumber (Matches (NameMatches (map definition_view definitions.now) depth)
+        (regex_of body.now))) text.now starts.now ends) }
 {
     let mut reached = copy_of(starts)?;
     let mut fresh = copy_of(starts)?;
@@ -132,7 +140,9 @@ fn named(
     starts: &BTreeSet<usize>,
 ) -> Result<BTreeSet<usize>, AllocError>
     requires { AreWithin text.now starts.now }
-    ensures { IfOk result (λ ends. AreEnds (NameMatches (map definition_view definitions.now) depth name.now) text.now starts.now ends) }
+    ensures { IfOk result (λ ends.
+        AreEnds (NameMatches (map definition_view definitions.now) depth name.now) text.now
+        starts.now ends) }
 {
     let mut found = BTreeSet::new(alloc);
     if depth == 0 {

@@ -46,10 +46,14 @@ pub(crate) fn add_new(
     places: &mut BTreeSet<usize>,
     further: &BTreeSet<usize>,
 ) -> Result<BTreeSet<usize>, AllocError>
-    ensures all { OnOk result ((j : ℕ) → contains nat_cmp places.new j ≡ (contains nat_cmp places.old j || contains nat_cmp further.now j)) }
+    ensures all { OnOk result ((j : ℕ) → contains nat_cmp places.new j
+        ≡ (contains nat_cmp places.old j || contains nat_cmp further.now j)) }
     ensures ordered { OnOk result (IsOrdered nat_cmp places.new) }
-    ensures count { IfOk result (λ fresh. btree_set_len places.new ≡ btree_set_len places.old + btree_set_len fresh) }
-    ensures new { IfOk result (λ fresh. (j : ℕ) → contains nat_cmp fresh j ≡ (contains nat_cmp further.now j && not (contains nat_cmp places.old j))) }
+    ensures count { IfOk result
+        (λ fresh. btree_set_len places.new ≡ btree_set_len places.old + btree_set_len fresh) }
+    ensures new { IfOk result (λ fresh.
+        (j : ℕ) → contains nat_cmp fresh j
+        ≡ (contains nat_cmp further.now j && not (contains nat_cmp places.old j))) }
 {
     let mut fresh = BTreeSet::new(alloc);
     // the positions are in order
@@ -64,7 +68,8 @@ pub(crate) fn add_new(
 
 /// Returns a copy of the positions.
 pub(crate) fn copy_of(places: &BTreeSet<usize>) -> Result<BTreeSet<usize>, AllocError>
-    ensures same { IfOk result (λ copy. (j : ℕ) → contains nat_cmp copy j ≡ contains nat_cmp places.now j) }
+    ensures same { IfOk result
+        (λ copy. (j : ℕ) → contains nat_cmp copy j ≡ contains nat_cmp places.now j) }
     ensures ordered { IfOk result (λ copy. IsOrdered nat_cmp copy) }
 {
     let copy = places.clone()?;

@@ -21,14 +21,19 @@ impl Model for ClaimSeat {
 
     ghost Value = { Drawn };
 
-    ghost view = { λ s. record { word = s.seat.table_id; files = s.seat.me.0.files; done = s.done; drawn = s.seat.me.0.drawn } };
+    ghost view = { λ s.
+        record
+        { word = s.seat.table_id; files = s.seat.me.0.files; done = s.done; drawn = s.seat.me.0.drawn } };
 
-    ghost invariant = { λ s. (s.seat.me.1 ≡ []) × (s.seat.me.0.parts ≡ 1) × (s.seat.me.0.past ≡ (if s.done then 1 else 0)) };
+    ghost invariant = { λ s.
+        (s.seat.me.1 ≡ []) × (s.seat.me.0.parts ≡ 1)
+        × (s.seat.me.0.past ≡ (if s.done then 1 else 0)) };
 }
 
 impl ClaimSeat {
     pub(crate) fn into_seat(self) -> Seat<(), SeatView>
-        ensures { (result.table_id ≡ self.word) × (result.me ≡ (seat_view self.files 1 (if self.done then 1 else 0) self.drawn, [])) }
+        ensures { (result.table_id ≡ self.word)
+            × (result.me ≡ (seat_view self.files 1 (if self.done then 1 else 0) self.drawn, [])) }
     {
         let ClaimSeat { seat, done: _ } = self;
         seat

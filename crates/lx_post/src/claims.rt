@@ -24,9 +24,13 @@ impl Model for Claims {
 
     ghost Value = { Claimed };
 
-    ghost view = { λ c. record { word = c.table.shared.table_id; files = c.files; workers = c.workers } };
+    ghost view = { λ c.
+        record { word = c.table.shared.table_id; files = c.files; workers = c.workers } };
 
-    ghost invariant = { λ c. (c.table.shared.table_id.words ≡ 1) × (c.table.shared.table_id.slots ≡ 0) × (c.table.shared.key.files ≡ c.files) × (c.table.shared.key.workers ≡ c.workers) × (0 < c.workers) };
+    ghost invariant = { λ c.
+        (c.table.shared.table_id.words ≡ 1) × (c.table.shared.table_id.slots ≡ 0)
+        × (c.table.shared.key.files ≡ c.files) × (c.table.shared.key.workers ≡ c.workers)
+        × (0 < c.workers) };
 }
 
 /// The value that `settle` returns if a seat is missing, or hasn't yet learnt that no file is left.
@@ -119,7 +123,8 @@ impl Claims {
         ensures files { IfOk result (λ n. n ≡ self.files) }
         ensures once { IfOk result (λ n. (x : ℕ) → times_drawn x seats.items ≡ once_below x n) }
         ensures unchanged { IfErr result (λ u. (u.claims ≡ self) × (u.seats ≡ seats)) }
-        ensures unsettled { IfErr result (λ u. (vec_len seats < self.workers) ⊎ (¬ (All (λ s. s.done ≡ true) seats.items))) }
+        ensures unsettled { IfErr result
+            (λ u. (vec_len seats < self.workers) ⊎ (¬ (All (λ s. s.done ≡ true) seats.items))) }
     {
         if seats.len() < usize::from(self.workers) || !seats.iter().all(|s| s.done) {
             return Err(Unsettled {
@@ -155,7 +160,9 @@ impl Claims {
         requires these { (seat.old.table_id ≡ self.now.word) × (other.word ≡ self.now.word) }
         requires done { other.done ≡ true }
         ensures same { seat.new.table_id ≡ seat.old.table_id }
-        ensures joined { seat.new.me.0 ≡ seat_view seat.old.me.0.files (seat.old.me.0.parts + 1) (seat.old.me.0.past + 1) (seat.old.me.0.drawn ++ other.drawn) }
+        ensures joined { seat.new.me.0
+            ≡ seat_view seat.old.me.0.files (seat.old.me.0.parts + 1) (seat.old.me.0.past + 1)
+            (seat.old.me.0.drawn ++ other.drawn) }
     {
         self.table.shared.join_seat::<Together>(seat, other.seat);
     }

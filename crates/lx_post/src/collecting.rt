@@ -19,13 +19,16 @@ impl<'a, W: Wait, G, M: Maker> RunContext<'a, W, G, M> {
         reader: &mut R,
     ) -> (TakePass<M::Made>, Result<(), RunFault>)
         requires take { take ≡ fresh_take self.now.post self.now.plan.now }
-        requires reader { TookNothing self.now.plan.now (R.plan reader.old) (R.counts reader.old) (R.fault_count reader.old) }
+        requires reader { TookNothing self.now.plan.now (R.plan reader.old) (R.counts reader.old)
+            (R.fault_count reader.old) }
         ensures take { IsTakePassOf self.now.post result.0 }
-        ensures ok { OnOk result.1 (IsCollected M.made self.now.plan.now result.0 (R.counts reader.new)) }
+        ensures ok { OnOk result.1
+            (IsCollected M.made self.now.plan.now result.0 (R.counts reader.new)) }
         ensures taken { TakesAllInOrder self.now.plan.now (R.counts reader.new) }
         ensures follows { R.follows reader.old reader.new }
         ensures plan { R.plan reader.new ≡ R.plan reader.old }
-        ensures faults { TellsFaults result.1 (R.fault_count reader.old) (R.fault_count reader.new) }
+        ensures faults { TellsFaults result.1 (R.fault_count reader.old)
+            (R.fault_count reader.new) }
     {
         let mut arrivals = NoteArrivals::new(self.rt, &self.post, take, Some(&self.signals.pace));
         let relayed = relay_of::<M, NoteArrivals<'_, W, M>, R>(
@@ -66,13 +69,16 @@ impl<'a, W: Wait, G, M: Maker> RunContext<'a, W, G, M> {
         reader: &mut R,
     ) -> (TakePass<M::Made>, Result<(), RunFault>)
         requires take { take ≡ fresh_take self.now.post self.now.plan.now }
-        requires reader { TookNothing self.now.plan.now (R.plan reader.old) (R.counts reader.old) (R.fault_count reader.old) }
+        requires reader { TookNothing self.now.plan.now (R.plan reader.old) (R.counts reader.old)
+            (R.fault_count reader.old) }
         ensures take { IsTakePassOf self.now.post result.0 }
-        ensures ok { OnOk result.1 (IsCollected M.made self.now.plan.now result.0 (R.counts reader.new)) }
+        ensures ok { OnOk result.1
+            (IsCollected M.made self.now.plan.now result.0 (R.counts reader.new)) }
         ensures taken { TakesAllInOrder self.now.plan.now (R.counts reader.new) }
         ensures follows { R.follows reader.old reader.new }
         ensures plan { R.plan reader.new ≡ R.plan reader.old }
-        ensures faults { TellsFaults result.1 (R.fault_count reader.old) (R.fault_count reader.new) }
+        ensures faults { TellsFaults result.1 (R.fault_count reader.old)
+            (R.fault_count reader.new) }
     {
         let (mut take, answer) = self.collect(take, reader);
         if let Err(fault) = answer {

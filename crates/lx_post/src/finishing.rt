@@ -56,8 +56,10 @@ pub fn finish<R: Wait, M: Maker>(
     requires passes { All (λ other. IsSendPassOf post other) passes.items }
     ensures received { IfOk result (λ _. All (λ other. IsAllReceived pass other) passes.items) }
     ensures every_worker { IfOk result (λ _. HaveAllWorkers pass.workers passes.items) }
-    ensures unchanged { IfErr result (λ u. (u.post ≡ post) × (u.pass ≡ pass) × (u.passes ≡ passes)) }
-    ensures unfinished { IfErr result (λ u. (¬ (AllEnded pass)) ⊎ (¬ (HaveAllWorkers pass.workers passes.items))) }
+    ensures unchanged { IfErr result
+        (λ u. (u.post ≡ post) × (u.pass ≡ pass) × (u.passes ≡ passes)) }
+    ensures unfinished { IfErr result
+        (λ u. (¬ (AllEnded pass)) ⊎ (¬ (HaveAllWorkers pass.workers passes.items))) }
 {
     if !pass.all_ended() {
         return Err(Unfinished { post, pass, passes });

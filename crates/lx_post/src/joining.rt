@@ -20,7 +20,8 @@ use std::thread::Threads;
 impl<'a, W: Threads, G, M: Maker> RunContext<'a, W, G, M> {
     // Joins a worker, and keeps its job.
     fn join_one(&self, handle: Worker<M>, ended: &mut Vec<Job<M::Made>>)
-        requires handle { IsReady self.now.claims self.now.post self.now.plan.now handle.promise.job.value }
+        requires handle { IsReady self.now.claims self.now.post self.now.plan.now
+            handle.promise.job.value }
         ensures ended { All (λ job. IsDone M.made self.now.claims self.now.post self.now.plan.now job) ended.old.items
             → All (λ job. IsDone M.made self.now.claims self.now.post self.now.plan.now job) ended.new.items }
     {
@@ -33,9 +34,14 @@ impl<'a, W: Threads, G, M: Maker> RunContext<'a, W, G, M> {
 
     /// Joins each worker, and keeps its job.
     pub fn join_all(&self, handles: Vec<Worker<M>>, ended: &mut Vec<Job<M::Made>>)
-        requires handles { All (λ handle. IsReady self.now.claims self.now.post self.now.plan.now handle.promise.job.value) handles.items }
-        requires ended { All (λ job. IsDone M.made self.now.claims self.now.post self.now.plan.now job) ended.old.items }
-        ensures { All (λ job. IsDone M.made self.now.claims self.now.post self.now.plan.now job) ended.new.items }
+        requires handles { All (λ handle.
+            IsReady self.now.claims self.now.post self.now.plan.now handle.promise.job.value)
+            handles.items }
+        requires ended { All
+            (λ job. IsDone M.made self.now.claims self.now.post self.now.plan.now job)
+            ended.old.items }
+        ensures { All (λ job. IsDone M.made self.now.claims self.now.post self.now.plan.now job)
+            ended.new.items }
     {
         for handle in handles {
             self.join_one(handle, ended);
@@ -48,7 +54,8 @@ impl<'a, W: Wait, G, M: Maker> RunContext<'a, W, G, M> {
     #[tactic(auto, using(crate::proofs::NothingLost::done_idle))]
     fn draw_for(&self, job: Job<M::Made>) -> Option<Job<M::Made>>
         requires { IsIdle self.now.claims self.now.post self.now.plan.now job }
-        ensures { IfSome result (λ done. IsDone M.made self.now.claims self.now.post self.now.plan.now done) }
+        ensures { IfSome result
+            (λ done. IsDone M.made self.now.claims self.now.post self.now.plan.now done) }
     {
         let Job { mut seat, pass } = job;
         match self.claims.draw(&mut seat) {
@@ -64,9 +71,13 @@ impl<'a, W: Wait, G, M: Maker> RunContext<'a, W, G, M> {
         idle: Vec<Job<M::Made>>,
         ended: &mut Vec<Job<M::Made>>,
     ) -> Result<(), AllocError>
-        requires idle { All (λ job. IsIdle self.now.claims self.now.post self.now.plan.now job) idle.items }
-        requires ended { All (λ job. IsDone M.made self.now.claims self.now.post self.now.plan.now job) ended.old.items }
-        ensures { All (λ job. IsDone M.made self.now.claims self.now.post self.now.plan.now job) ended.new.items }
+        requires idle { All (λ job. IsIdle self.now.claims self.now.post self.now.plan.now job)
+            idle.items }
+        requires ended { All
+            (λ job. IsDone M.made self.now.claims self.now.post self.now.plan.now job)
+            ended.old.items }
+        ensures { All (λ job. IsDone M.made self.now.claims self.now.post self.now.plan.now job)
+            ended.new.items }
     {
         for job in idle {
             let Some(job) = self.draw_for(job) else {
@@ -110,8 +121,10 @@ pub fn settle_all<W: Wait, G, M: Maker + Drop>(
     requires take { IsTakePassOf context.post take }
     requires faultless { first_fault take.received ≡ None }
     requires files { context.claims.files ≡ files_of context.plan.now }
-    requires ended { All (λ job. IsDone M.made context.claims context.post context.plan.now job) ended.items }
-    requires idle { All (λ job. IsIdle context.claims context.post context.plan.now job) idle.items }
+    requires ended { All (λ job. IsDone M.made context.claims context.post context.plan.now job)
+        ended.items }
+    requires idle { All (λ job. IsIdle context.claims context.post context.plan.now job)
+        idle.items }
     requires none { (parts.seats.items ≡ []) × (parts.passes.items ≡ []) }
     ensures ok { OnOk result (AreAllReceived M.made context.entry.plan.now take) }
     ensures err { IfErr result (λ fault. fault ≡ RunFault.Memory) }

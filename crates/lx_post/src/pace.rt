@@ -41,7 +41,8 @@ struct Seen {
 
 // Returns true if the worker of `file` waits: its file comes after the awaited one, much is held, and the pace isn't ended.
 fn is_to_wait(seen: Seen, file: u32) -> bool
-    ensures { IsTrue result ↔ ((seen.file < file) × (MOST_HELD ≤ seen.bytes) × (seen.is_over ≡ false)) }
+    ensures { IsTrue result
+        ↔ ((seen.file < file) × (MOST_HELD ≤ seen.bytes) × (seen.is_over ≡ false)) }
 {
     seen.file < u64::from(file) && seen.bytes >= MOST_HELD && !seen.is_over
 }

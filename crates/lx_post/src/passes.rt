@@ -26,9 +26,13 @@ impl<C> Model for SendPass<C> {
 
     ghost Value = { Sent C };
 
-    ghost view = { λ p. record { queue = p.pass.table_id; plan = (known p.pass).plan; worker = p.worker; sent = (known p.pass).sent } };
+    ghost view = { λ p.
+        record
+        { queue = p.pass.table_id; plan = (known p.pass).plan; worker = p.worker; sent = (known p.pass).sent } };
 
-    ghost invariant = { λ p. (p.pass.me.1 ≡ []) × (known p.pass ≡ sender (known p.pass).plan p.worker (known p.pass).sent) };
+    ghost invariant = { λ p.
+        (p.pass.me.1 ≡ [])
+        × (known p.pass ≡ sender (known p.pass).plan p.worker (known p.pass).sent) };
 }
 
 /// The right to receive notes. Contracts see what was received.
@@ -50,7 +54,9 @@ impl<C> Model for TakePass<C> {
 
     ghost Value = { Taken C };
 
-    ghost view = { λ p. record { queue = p.pass.table_id; plan = (known p.pass).plan; workers = p.workers; received = (known p.pass).received } };
+    ghost view = { λ p.
+        record
+        { queue = p.pass.table_id; plan = (known p.pass).plan; workers = p.workers; received = (known p.pass).received } };
 
     ghost invariant = { λ p.
         (p.pass.me.1 ≡ [])

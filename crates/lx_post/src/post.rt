@@ -58,7 +58,8 @@ impl Post {
         requires room { 0 < room }
         ensures post { IfOk result (λ r. r.0.workers ≡ workers) }
         ensures count { IfOk result (λ r. vec_len r.1 ≡ workers) }
-        ensures passes { IfOk result (λ r. (w : ℕ) → w < workers → slice_get r.1.items w ≡ Some (fresh_send r.0 plan.now w)) }
+        ensures passes { IfOk result (λ r.
+            (w : ℕ) → w < workers → slice_get r.1.items w ≡ Some (fresh_send r.0 plan.now w)) }
         ensures pass { IfOk result (λ r. r.2 ≡ fresh_take r.0 plan.now) }
     {
         Post::of(rt, alloc, plan, workers, room)
@@ -79,7 +80,8 @@ impl<M: Maker> Post<M> {
         requires room { 0 < room }
         ensures post { IfOk result (λ r. r.0.workers ≡ workers) }
         ensures count { IfOk result (λ r. vec_len r.1 ≡ workers) }
-        ensures passes { IfOk result (λ r. (w : ℕ) → w < workers → slice_get r.1.items w ≡ Some (fresh_send r.0 plan.now w)) }
+        ensures passes { IfOk result (λ r.
+            (w : ℕ) → w < workers → slice_get r.1.items w ≡ Some (fresh_send r.0 plan.now w)) }
         ensures pass { IfOk result (λ r. r.2 ≡ fresh_take r.0 plan.now) }
     {
         let mut passes = Vec::with_capacity(alloc, usize::from(workers))?;
@@ -105,7 +107,8 @@ impl<M: Maker> Post<M> {
     ) -> Result<(Post<M>, Pass<Note<M::Made>, PassView<M::Made>>), AllocError>
         requires { 0 < room }
         ensures post { IfOk result (λ r. r.0.workers ≡ workers) }
-        ensures pass { IfOk result (λ r. (r.1.table_id ≡ r.0.queue) × (r.1.me.1 ≡ []) × (view r.1 ≡ opened plan.now)) }
+        ensures pass { IfOk result
+            (λ r. (r.1.table_id ≡ r.0.queue) × (r.1.me.1 ≡ []) × (view r.1 ≡ opened plan.now)) }
     {
         let (queue, mut pass) = RuledArrayQueue::ruled(alloc, room)?;
         name_plan::<Brand, M>(&queue, &mut pass, plan);
@@ -119,7 +122,8 @@ impl<M: Maker> Post<M> {
         worker: u8,
     ) -> SendPass<M::Made>
         requires post { (pass.old.table_id ≡ self.now.queue) × (pass.old.me.1 ≡ []) }
-        requires next { (view pass.old ≡ taker (view pass.old).plan worker [] no_worker []) × (worker < max_workers) }
+        requires next { (view pass.old ≡ taker (view pass.old).plan worker [] no_worker [])
+            × (worker < max_workers) }
         ensures post { (pass.new.table_id ≡ self.now.queue) × (pass.new.me.1 ≡ []) }
         ensures next { view pass.new ≡ taker (view pass.old).plan (worker + 1) [] no_worker [] }
         ensures pass { result ≡ fresh_send self.now (view pass.old).plan worker }
@@ -167,7 +171,8 @@ impl<M: Maker> Post<M> {
     // Receives a note if there is one.
     fn try_receive<R: Wait>(&self, rt: &R, pass: &mut TakePass<M::Made>) -> Option<Note<M::Made>>
         requires { IsTakePassOf self.now pass.old }
-        ensures some { IfSome result (λ note. MayCome M.made pass.old note × (pass.new ≡ with_received pass.old note)) }
+        ensures some { IfSome result
+            (λ note. MayCome M.made pass.old note × (pass.new ≡ with_received pass.old note)) }
         ensures none { IfNone result (pass.new ≡ pass.old) }
     {
         let note = self.queue.pop_as::<Taking<M>, R>(rt, &mut pass.pass)?;
@@ -180,7 +185,8 @@ impl<M: Maker> Post<M> {
     /// Receives a note, and waits for one if there is none. Returns `None` once every worker's end was received. Allocates nothing.
     pub fn receive<R: Wait>(&self, rt: &R, pass: &mut TakePass<M::Made>) -> Option<Note<M::Made>>
         requires { IsTakePassOf self.now pass.old }
-        ensures some { IfSome result (λ note. MayCome M.made pass.old note × (pass.new ≡ with_received pass.old note)) }
+        ensures some { IfSome result
+            (λ note. MayCome M.made pass.old note × (pass.new ≡ with_received pass.old note)) }
         ensures none { IfNone result ((pass.new ≡ pass.old) × AllEnded pass.old) }
     {
         if pass.all_ended() {

@@ -42,7 +42,8 @@ impl<'a, R: Wait, M: Maker> Model for NoteArrivals<'a, R, M> {
 
     ghost Value = { Arriving M.Made };
 
-    ghost view = { λ s. record { pass = s.pass; since = drop (length s.first.value.received) s.pass.received } };
+    ghost view = { λ s.
+        record { pass = s.pass; since = drop (length s.first.value.received) s.pass.received } };
 
     ghost invariant = { λ s.
         IsTakePassOf s.post.now s.pass
@@ -83,7 +84,8 @@ impl<'a, R: Wait, M: Maker> NoteArrivals<'a, R, M> {
 
     // Receives a note. Returns `None` once every worker's end was received.
     fn next_note(&mut self) -> Option<Note<M::Made>>
-        ensures some { IfSome result (λ note. MayCome M.made self.old.pass note × (self.new ≡ with_arrival self.old note)) }
+        ensures some { IfSome result
+            (λ note. MayCome M.made self.old.pass note × (self.new ≡ with_arrival self.old note)) }
         ensures none { IfNone result ((self.new ≡ self.old) × AllEnded self.old.pass) }
     {
         let note = self.post.receive(self.rt, &mut self.pass)?;

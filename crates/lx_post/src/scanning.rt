@@ -33,7 +33,8 @@ pub fn scan_all<W: Threads + Wait + Sync, G: Gate + Sync, R: Reader + Drop>(
     ensures taken { TakesAllInOrder plan.now (R.counts result.0) }
     ensures follows { R.follows reader result.0 }
     ensures plan { R.plan result.0 ≡ R.plan reader }
-    ensures reader_fault { result.1 ≡ Err RunFault.Reader → R.fault_count reader < R.fault_count result.0 }
+    ensures reader_fault { result.1 ≡ Err RunFault.Reader
+        → R.fault_count reader < R.fault_count result.0 }
     ensures no_fault { OnOk result.1 (R.fault_count result.0 ≡ R.fault_count reader) }
 {
     scan::<W, G, KeepItems, R>(
@@ -73,7 +74,8 @@ pub fn scan_made<
     ensures taken { TakesAllInOrder plan.now (R.counts result.0) }
     ensures follows { R.follows reader result.0 }
     ensures plan { R.plan result.0 ≡ R.plan reader }
-    ensures reader_fault { result.1 ≡ Err RunFault.Reader → R.fault_count reader < R.fault_count result.0 }
+    ensures reader_fault { result.1 ≡ Err RunFault.Reader
+        → R.fault_count reader < R.fault_count result.0 }
     ensures no_fault { OnOk result.1 (R.fault_count result.0 ≡ R.fault_count reader) }
 {
     scan(

@@ -138,13 +138,20 @@ pub fn start_all<'s, 'a, E, W: Wait + Sync, G: Gate + Sync, M: Maker<Made: Send>
     jobs: Vec<Job<M::Made>>,
     workers: &mut Workers<M>,
 )
-    requires ready { All (λ job. IsReady context.now.claims context.now.post context.now.plan.now job) jobs.items }
+    requires ready { All
+        (λ job. IsReady context.now.claims context.now.post context.now.plan.now job) jobs.items }
     requires few_workers { context.now.post.workers ≤ max_workers }
     requires files { AreClaimsOf context.now.plan.now context.now.claims }
-    requires none { (workers.old.handles.items ≡ []) × (workers.old.ended.items ≡ []) × (workers.old.idle.items ≡ []) }
-    ensures handles { All (λ handle. IsReady context.now.claims context.now.post context.now.plan.now handle.promise.job.value) workers.new.handles.items }
-    ensures ended { All (λ job. IsDone M.made context.now.claims context.now.post context.now.plan.now job) workers.new.ended.items }
-    ensures idle { All (λ job. IsIdle context.now.claims context.now.post context.now.plan.now job) workers.new.idle.items }
+    requires none { (workers.old.handles.items ≡ []) × (workers.old.ended.items ≡ [])
+        × (workers.old.idle.items ≡ []) }
+    ensures handles { All (λ handle.
+        IsReady context.now.claims context.now.post context.now.plan.now
+        handle.promise.job.value) workers.new.handles.items }
+    ensures ended { All
+        (λ job. IsDone M.made context.now.claims context.now.post context.now.plan.now job)
+        workers.new.ended.items }
+    ensures idle { All (λ job. IsIdle context.now.claims context.now.post context.now.plan.now job)
+        workers.new.idle.items }
 {
     for job in jobs {
         start_or_idle(context, scope, job, workers);

@@ -46,8 +46,11 @@ fn jobs_of<M: Maker>(
     plan: &Plan,
 ) -> Result<Vec<Job<M::Made>>, AllocError>
     requires seats { All (λ seat. seat ≡ fresh_seat claims.now) seats.items }
-    requires passes { All (λ pass. (pass ≡ fresh_send post.now plan.now pass.worker) × (pass.worker < post.now.workers)) passes.items }
-    ensures { IfOk result (λ jobs. All (λ job. IsReady claims.now post.now plan.now job) jobs.items) }
+    requires passes { All (λ pass.
+        (pass ≡ fresh_send post.now plan.now pass.worker) × (pass.worker < post.now.workers))
+        passes.items }
+    ensures { IfOk result
+        (λ jobs. All (λ job. IsReady claims.now post.now plan.now job) jobs.items) }
 {
     let mut jobs = Vec::with_capacity(alloc, passes.len())?;
     for pass in passes {
@@ -78,9 +81,13 @@ fn prepare<'a, W: Wait, G, M: Maker + Drop>(
 ) -> Result<(RunContext<'a, W, G, M>, Start<M>), AllocError>
     requires { (0 < workers) × (workers ≤ max_workers) }
     ensures plan { IfOk result (λ r. r.0.plan.now ≡ plan.now) }
-    ensures prepared { IfOk result (λ r. IsPrepared plan.now r.0.claims r.0.post r.1.take r.1.jobs.items) }
-    ensures workers { IfOk result (λ r. (r.1.workers.handles.items ≡ []) × (r.1.workers.ended.items ≡ []) × (r.1.workers.idle.items ≡ [])) }
-    ensures parts { IfOk result (λ r. (r.1.parts.seats.items ≡ []) × (r.1.parts.passes.items ≡ [])) }
+    ensures prepared { IfOk result
+        (λ r. IsPrepared plan.now r.0.claims r.0.post r.1.take r.1.jobs.items) }
+    ensures workers { IfOk result (λ r.
+        (r.1.workers.handles.items ≡ []) × (r.1.workers.ended.items ≡ [])
+        × (r.1.workers.idle.items ≡ [])) }
+    ensures parts { IfOk result
+        (λ r. (r.1.parts.seats.items ≡ []) × (r.1.parts.passes.items ≡ [])) }
 {
     let count = usize::from(workers);
     let (claims, seats) = Claims::new(alloc, plan.files(), workers)?;
@@ -119,8 +126,10 @@ fn run_alone<W, G, M: Maker + Copy + Drop, R: ReaderOf<M>>(
     context: &RunContext<'_, W, G, M>,
     reader: &mut R,
 ) -> Ran<M::Made>
-    requires reader { TookNothing context.now.plan.now (R.plan reader.old) (R.counts reader.old) (R.fault_count reader.old) }
-    ensures ran { HasRun M.made context.now.plan.now context.now.claims context.now.post (R.counts reader.new) result }
+    requires reader { TookNothing context.now.plan.now (R.plan reader.old) (R.counts reader.old)
+        (R.fault_count reader.old) }
+    ensures ran { HasRun M.made context.now.plan.now context.now.claims context.now.post
+        (R.counts reader.new) result }
     ensures taken { TakesAllInOrder context.now.plan.now (R.counts reader.new) }
     ensures follows { R.follows reader.old reader.new }
     ensures plan { R.plan reader.new ≡ R.plan reader.old }
@@ -151,10 +160,14 @@ fn run<
     unstarted: Unstarted,
     mut reader: R,
 ) -> (R, Ran<M::Made>)
-    requires prepared { IsPrepared context.now.plan.now context.now.claims context.now.post take jobs.items }
-    requires none { (workers.handles.items ≡ []) × (workers.ended.items ≡ []) × (workers.idle.items ≡ []) }
-    requires reader { TookNothing context.now.plan.now (R.plan reader) (R.counts reader) (R.fault_count reader) }
-    ensures ran { HasRun M.made context.now.plan.now context.now.claims context.now.post (R.counts result.0) result.1 }
+    requires prepared { IsPrepared context.now.plan.now context.now.claims context.now.post take
+        jobs.items }
+    requires none { (workers.handles.items ≡ []) × (workers.ended.items ≡ [])
+        × (workers.idle.items ≡ []) }
+    requires reader { TookNothing context.now.plan.now (R.plan reader) (R.counts reader)
+        (R.fault_count reader) }
+    ensures ran { HasRun M.made context.now.plan.now context.now.claims context.now.post
+        (R.counts result.0) result.1 }
     ensures taken { TakesAllInOrder context.now.plan.now (R.counts result.0) }
     ensures follows { R.follows reader result.0 }
     ensures plan { R.plan result.0 ≡ R.plan reader }
@@ -197,10 +210,14 @@ fn run_scoped<
     unstarted: Unstarted,
     reader: R,
 ) -> (R, Ran<M::Made>)
-    requires prepared { IsPrepared context.now.plan.now context.now.claims context.now.post take jobs.items }
-    requires none { (workers.handles.items ≡ []) × (workers.ended.items ≡ []) × (workers.idle.items ≡ []) }
-    requires reader { TookNothing context.now.plan.now (R.plan reader) (R.counts reader) (R.fault_count reader) }
-    ensures ran { HasRun M.made context.now.plan.now context.now.claims context.now.post (R.counts result.0) result.1 }
+    requires prepared { IsPrepared context.now.plan.now context.now.claims context.now.post take
+        jobs.items }
+    requires none { (workers.handles.items ≡ []) × (workers.ended.items ≡ [])
+        × (workers.idle.items ≡ []) }
+    requires reader { TookNothing context.now.plan.now (R.plan reader) (R.counts reader)
+        (R.fault_count reader) }
+    ensures ran { HasRun M.made context.now.plan.now context.now.claims context.now.post
+        (R.counts result.0) result.1 }
     ensures taken { TakesAllInOrder context.now.plan.now (R.counts result.0) }
     ensures follows { R.follows reader result.0 }
     ensures plan { R.plan result.0 ≡ R.plan reader }
@@ -249,7 +266,8 @@ pub fn scan<
     ensures taken { TakesAllInOrder plan.now (R.counts result.0) }
     ensures follows { R.follows reader result.0 }
     ensures plan { R.plan result.0 ≡ R.plan reader }
-    ensures reader_fault { result.1 ≡ Err RunFault.Reader → R.fault_count reader < R.fault_count result.0 }
+    ensures reader_fault { result.1 ≡ Err RunFault.Reader
+        → R.fault_count reader < R.fault_count result.0 }
     ensures no_fault { OnOk result.1 (R.fault_count result.0 ≡ R.fault_count reader) }
 {
     let Ok((context, start)) = prepare(rt, alloc, plan, workers, gate, maker) else {

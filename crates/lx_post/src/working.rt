@@ -58,7 +58,8 @@ impl<'a, W: Wait, G: Gate, M: Maker + Copy> RunContext<'a, W, G, M> {
         requires files { AreClaimsOf self.now.plan.now self.now.claims }
         ensures seat { IsSeatOf self.now.claims seat.new }
         ensures pass { SendsPieces pass.old pass.new }
-        ensures done { result.1 ≡ None → (seat.new.done ≡ true) × HasDrawn M.made self.now.plan.now result.0 seat.new pass.new }
+        ensures done { result.1 ≡ None → (seat.new.done ≡ true)
+            × HasDrawn M.made self.now.plan.now result.0 seat.new pass.new }
     {
         let mut maker = self.maker;
         let mut files = 0;

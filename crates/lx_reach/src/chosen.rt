@@ -15,9 +15,13 @@ fn mark_state(tables: &Tables, state: u32, with_line_ends: bool, flags: &mut Vec
     requires state { state < state_count tables.now.machine }
     requires long { length flags.old.items ≡ length tables.now.rules }
     ensures long { length flags.new.items ≡ length tables.now.rules }
-    ensures kept { (r : ℕ) → slice_index_or flags.old.items r false ≡ true → slice_index_or flags.new.items r false ≡ true }
-    ensures there { (r : ℕ) → IsCounted tables.now with_line_ends state r → slice_index_or flags.new.items r false ≡ true }
-    ensures only { (r : ℕ) → slice_index_or flags.new.items r false ≡ true → (slice_index_or flags.old.items r false ≡ true) ⊎ IsCounted tables.now with_line_ends state r }
+    ensures kept { (r : ℕ) → slice_index_or flags.old.items r false ≡ true
+        → slice_index_or flags.new.items r false ≡ true }
+    ensures there { (r : ℕ) → IsCounted tables.now with_line_ends state r
+        → slice_index_or flags.new.items r false ≡ true }
+    ensures only { (r : ℕ) → slice_index_or flags.new.items r false ≡ true
+        → (slice_index_or flags.old.items r false ≡ true)
+        ⊎ IsCounted tables.now with_line_ends state r }
 {
     let Some(rule) = tables.accepts(State(state)) else {
         return;
@@ -29,10 +33,12 @@ fn mark_state(tables: &Tables, state: u32, with_line_ends: bool, flags: &mut Vec
 
 // Marks the rules that these states accept.
 fn mark(tables: &Tables, states: &[u32], with_line_ends: bool, flags: &mut Vec<bool>)
-    requires states { (i : ℕ) → i < length states.now → slice_index states.now i < state_count tables.now.machine }
+    requires states { (i : ℕ) → i < length states.now
+        → slice_index states.now i < state_count tables.now.machine }
     requires long { length flags.old.items ≡ length tables.now.rules }
     ensures long { length flags.new.items ≡ length tables.now.rules }
-    ensures are { AreCounted tables.now with_line_ends states.now (length states.now) flags.old.items flags.new.items }
+    ensures are { AreCounted tables.now with_line_ends states.now (length states.now)
+        flags.old.items flags.new.items }
 {
     for place in 0..states.len() {
         mark_state(tables, states[place], with_line_ends, flags);
@@ -43,7 +49,8 @@ fn mark(tables: &Tables, states: &[u32], with_line_ends: bool, flags: &mut Vec<b
 // newline of a `$` isn't a part of the token, so no text of one byte has a rule with `$` as its choice.
 fn taken(alloc: Global, tables: &Tables, first: u16, end: u16) -> Result<Vec<bool>, AllocError>
     requires end { end ≤ length tables.now.machine.starts }
-    ensures { IfOk result (λ flags. AreFlagsOf (length tables.now.rules) (IsTaken tables.now first end) flags.items) }
+    ensures { IfOk result
+        (λ flags. AreFlagsOf (length tables.now.rules) (IsTaken tables.now first end) flags.items) }
 {
     let any = reached(alloc, tables, first, end)?;
     let one = targets_of(alloc, tables, &any)?;
@@ -57,7 +64,8 @@ fn taken(alloc: Global, tables: &Tables, first: u16, end: u16) -> Result<Vec<boo
 /// Tests for each rule if it is the choice for some text of bytes, in some condition (XCU `lex`, "Rules in lex"). The text may be at the start of a
 /// line or elsewhere. Also counts conditions that are never entered. Err: an allocation failed.
 pub fn chosen_rules(alloc: Global, tables: &Tables) -> Result<Vec<bool>, AllocError>
-    ensures { IfOk result (λ flags. AreFlagsOf (length tables.now.rules) (IsEverChosen tables.now) flags.items) }
+    ensures { IfOk result
+        (λ flags. AreFlagsOf (length tables.now.rules) (IsEverChosen tables.now) flags.items) }
 {
     taken(alloc, tables, 0, tables.conditions())
 }
@@ -65,7 +73,8 @@ pub fn chosen_rules(alloc: Global, tables: &Tables) -> Result<Vec<bool>, AllocEr
 /// Tests for each rule if it is the choice for some text of bytes in this condition.
 pub fn chosen_in(alloc: Global, tables: &Tables, condition: u16) -> Result<Vec<bool>, AllocError>
     requires { condition < length tables.now.machine.starts }
-    ensures { IfOk result (λ flags. AreFlagsOf (length tables.now.rules) (IsChosenIn tables.now condition) flags.items) }
+    ensures { IfOk result (λ flags.
+        AreFlagsOf (length tables.now.rules) (IsChosenIn tables.now condition) flags.items) }
 {
     // a law: there are few conditions
     tables_are_well_formed(tables);

@@ -26,11 +26,15 @@ fn meet_behind(
     requires long { length met.old.places.items ≡ length tables.now.machine.starts }
     ensures met { OnOk result (AreMet met.new.numbers.items met.new.places.items) }
     ensures long { OnOk result (length met.new.places.items ≡ length tables.now.machine.starts) }
-    ensures there { OnOk result ((c : ℕ) → IsBehind tables.now condition flags.now c → slice_index met.new.places.items c ≢ 0) }
-    ensures kept { OnOk result ((c : ℕ) → slice_index met.old.places.items c ≢ 0 → slice_index met.new.places.items c ≢ 0) }
-    ensures only { OnOk result ((c : ℕ) → slice_index met.new.places.items c ≢ 0 → slice_index met.old.places.items c ≢ 0 ⊎ IsBehind tables.now condition flags.now c) }
+    ensures there { OnOk result ((c : ℕ) → IsBehind tables.now condition flags.now c
+        → slice_index met.new.places.items c ≢ 0) }
+    ensures kept { OnOk result ((c : ℕ) → slice_index met.old.places.items c ≢ 0
+        → slice_index met.new.places.items c ≢ 0) }
+    ensures only { OnOk result ((c : ℕ) → slice_index met.new.places.items c ≢ 0
+        → slice_index met.old.places.items c ≢ 0 ⊎ IsBehind tables.now condition flags.now c) }
     ensures more { OnOk result (length met.old.numbers.items ≤ length met.new.numbers.items) }
-    ensures front { OnOk result ((i : ℕ) → i < length met.old.numbers.items → slice_index met.new.numbers.items i ≡ slice_index met.old.numbers.items i) }
+    ensures front { OnOk result ((i : ℕ) → i < length met.old.numbers.items
+        → slice_index met.new.numbers.items i ≡ slice_index met.old.numbers.items i) }
 {
     for rule in 0..tables.rules() {
         if flags[rule as usize] {
@@ -43,8 +47,10 @@ fn meet_behind(
 // Returns the conditions that are entered, in the order in which they were met.
 fn entered(alloc: Global, tables: &Tables) -> Result<Met, AllocError>
     ensures long { IfOk result (λ met. length met.places.items ≡ length tables.now.machine.starts) }
-    ensures only { IfOk result (λ met. (c : ℕ) → slice_index met.places.items c ≢ 0 → IsEntered tables.now c) }
-    ensures all { IfOk result (λ met. (c : ℕ) → IsEntered tables.now c → slice_index met.places.items c ≢ 0) }
+    ensures only { IfOk result
+        (λ met. (c : ℕ) → slice_index met.places.items c ≢ 0 → IsEntered tables.now c) }
+    ensures all { IfOk result
+        (λ met. (c : ℕ) → IsEntered tables.now c → slice_index met.places.items c ≢ 0) }
 {
     let mut met = none_met(alloc, tables.conditions() as usize)?;
     meet(&mut met, 0)?;
@@ -61,8 +67,10 @@ fn entered(alloc: Global, tables: &Tables) -> Result<Met, AllocError>
 // Tests for each number if it isn't 0.
 fn marks_of(alloc: Global, places: &[u16]) -> Result<Vec<bool>, AllocError>
     ensures long { IfOk result (λ flags. length flags.items ≡ length places.now) }
-    ensures holds { IfOk result (λ flags. (n : ℕ) → slice_index_or flags.items n false ≡ true → slice_index places.now n ≢ 0) }
-    ensures fails { IfOk result (λ flags. (n : ℕ) → slice_index_or flags.items n false ≡ false → slice_index places.now n ≡ 0) }
+    ensures holds { IfOk result (λ flags.
+        (n : ℕ) → slice_index_or flags.items n false ≡ true → slice_index places.now n ≢ 0) }
+    ensures fails { IfOk result (λ flags.
+        (n : ℕ) → slice_index_or flags.items n false ≡ false → slice_index places.now n ≡ 0) }
 {
     let mut flags = Vec::new(alloc);
     for place in places {
@@ -74,7 +82,8 @@ fn marks_of(alloc: Global, places: &[u16]) -> Result<Vec<bool>, AllocError>
 /// Tests for each start condition if it is entered: INITIAL is, and from each entered condition those after the actions of the rules that are chosen
 /// in it (XCU `lex`, "Actions in lex": BEGIN). Err: an allocation failed.
 pub fn entered_conditions(alloc: Global, tables: &Tables) -> Result<Vec<bool>, AllocError>
-    ensures { IfOk result (λ flags. AreFlagsOf (length tables.now.machine.starts) (IsEntered tables.now) flags.items) }
+    ensures { IfOk result (λ flags.
+        AreFlagsOf (length tables.now.machine.starts) (IsEntered tables.now) flags.items) }
 {
     let met = entered(alloc, tables)?;
     marks_of(alloc, &met.places)

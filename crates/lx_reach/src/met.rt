@@ -35,10 +35,13 @@ pub fn meet(met: &mut Met, number: u32) -> Result<(), AllocError>
     ensures met { OnOk result (AreMet met.new.numbers.items met.new.places.items) }
     ensures long { OnOk result (length met.new.places.items ≡ length met.old.places.items) }
     ensures there { OnOk result (slice_index met.new.places.items number ≢ 0) }
-    ensures kept { OnOk result ((s : ℕ) → slice_index met.old.places.items s ≢ 0 → slice_index met.new.places.items s ≢ 0) }
-    ensures only { OnOk result ((s : ℕ) → slice_index met.new.places.items s ≢ 0 → slice_index met.old.places.items s ≢ 0 ⊎ s ≡ number) }
+    ensures kept { OnOk result ((s : ℕ) → slice_index met.old.places.items s ≢ 0
+        → slice_index met.new.places.items s ≢ 0) }
+    ensures only { OnOk result ((s : ℕ) → slice_index met.new.places.items s ≢ 0
+        → slice_index met.old.places.items s ≢ 0 ⊎ s ≡ number) }
     ensures more { OnOk result (length met.old.numbers.items ≤ length met.new.numbers.items) }
-    ensures front { OnOk result ((i : ℕ) → i < length met.old.numbers.items → slice_index met.new.numbers.items i ≡ slice_index met.old.numbers.items i) }
+    ensures front { OnOk result ((i : ℕ) → i < length met.old.numbers.items
+        → slice_index met.new.numbers.items i ≡ slice_index met.old.numbers.items i) }
 {
     if met.places[number as usize] != 0 {
         return Ok(());

@@ -16,8 +16,10 @@ fn meet_starts(tables: &Tables, first: u16, end: u16, met: &mut Met) -> Result<(
     requires none { (s : ℕ) → slice_index met.old.places.items s ≡ 0 }
     ensures met { OnOk result (AreMet met.new.numbers.items met.new.places.items) }
     ensures long { OnOk result (length met.new.places.items ≡ state_count tables.now.machine) }
-    ensures there { OnOk result ((s : ℕ) → IsStart tables.now.machine first end s → slice_index met.new.places.items s ≢ 0) }
-    ensures only { OnOk result ((s : ℕ) → slice_index met.new.places.items s ≢ 0 → IsStart tables.now.machine first end s) }
+    ensures there { OnOk result ((s : ℕ) → IsStart tables.now.machine first end s
+        → slice_index met.new.places.items s ≢ 0) }
+    ensures only { OnOk result ((s : ℕ) → slice_index met.new.places.items s ≢ 0
+        → IsStart tables.now.machine first end s) }
 {
     for condition in first..end {
         meet(met, tables.start(condition, false).0)?;
@@ -33,11 +35,15 @@ pub fn meet_targets(tables: &Tables, met: &mut Met, state: u32) -> Result<(), Al
     requires state { state < state_count tables.now.machine }
     ensures met { OnOk result (AreMet met.new.numbers.items met.new.places.items) }
     ensures long { OnOk result (length met.new.places.items ≡ state_count tables.now.machine) }
-    ensures there { OnOk result ((t : ℕ) → IsTarget tables.now.machine state t → slice_index met.new.places.items t ≢ 0) }
-    ensures kept { OnOk result ((s : ℕ) → slice_index met.old.places.items s ≢ 0 → slice_index met.new.places.items s ≢ 0) }
-    ensures only { OnOk result ((t : ℕ) → slice_index met.new.places.items t ≢ 0 → slice_index met.old.places.items t ≢ 0 ⊎ IsTarget tables.now.machine state t) }
+    ensures there { OnOk result
+        ((t : ℕ) → IsTarget tables.now.machine state t → slice_index met.new.places.items t ≢ 0) }
+    ensures kept { OnOk result ((s : ℕ) → slice_index met.old.places.items s ≢ 0
+        → slice_index met.new.places.items s ≢ 0) }
+    ensures only { OnOk result ((t : ℕ) → slice_index met.new.places.items t ≢ 0
+        → slice_index met.old.places.items t ≢ 0 ⊎ IsTarget tables.now.machine state t) }
     ensures more { OnOk result (length met.old.numbers.items ≤ length met.new.numbers.items) }
-    ensures front { OnOk result ((i : ℕ) → i < length met.old.numbers.items → slice_index met.new.numbers.items i ≡ slice_index met.old.numbers.items i) }
+    ensures front { OnOk result ((i : ℕ) → i < length met.old.numbers.items
+        → slice_index met.new.numbers.items i ≡ slice_index met.old.numbers.items i) }
 {
     for byte in 0..256u16 {
         if let Some(target) = tables.step(State(state), byte as u8) {
@@ -52,8 +58,12 @@ pub fn reached(alloc: Global, tables: &Tables, first: u16, end: u16) -> Result<M
     requires end { end ≤ length tables.now.machine.starts }
     ensures met { IfOk result (λ met. AreMet met.numbers.items met.places.items) }
     ensures long { IfOk result (λ met. length met.places.items ≡ state_count tables.now.machine) }
-    ensures only { IfOk result (λ met. (s : ℕ) → slice_index met.places.items s ≢ 0 → IsReached tables.now.machine first end 0 s) }
-    ensures all { IfOk result (λ met. (s : ℕ) → IsReached tables.now.machine first end 0 s → slice_index met.places.items s ≢ 0) }
+    ensures only { IfOk result (λ met.
+        (s : ℕ) → slice_index met.places.items s ≢ 0
+        → IsReached tables.now.machine first end 0 s) }
+    ensures all { IfOk result (λ met.
+        (s : ℕ) → IsReached tables.now.machine first end 0 s
+        → slice_index met.places.items s ≢ 0) }
 {
     let mut met = none_met(alloc, tables.states() as usize)?;
     meet_starts(tables, first, end, &mut met)?;
@@ -72,7 +82,8 @@ pub fn targets_of(alloc: Global, tables: &Tables, from: &Met) -> Result<Met, All
     requires long { length from.now.places.items ≡ state_count tables.now.machine }
     ensures met { IfOk result (λ met. AreMet met.numbers.items met.places.items) }
     ensures long { IfOk result (λ met. length met.places.items ≡ state_count tables.now.machine) }
-    ensures are { IfOk result (λ met. AreTargets tables.now.machine from.now.places.items met.places.items) }
+    ensures are { IfOk result
+        (λ met. AreTargets tables.now.machine from.now.places.items met.places.items) }
 {
     let mut met = none_met(alloc, tables.states() as usize)?;
     for place in 0..from.numbers.len() {

@@ -9,8 +9,11 @@ use lx_scan::ruling::{choice_is_by_rules, one_choice};
 
 /// States a law: by the tables of a specification, a rule is chosen in a condition exactly if it is by the rules. The same holds for some condition.
 pub fn chosen_is_by_rules()
-    ensures one { (spec : PlainSpec) (table : Table) (condition rule : ℕ) → AreTablesOf spec table → condition < length spec.conditions → IsChosenIn table condition rule ↔ IsChosenBy spec condition rule }
-    ensures some { (spec : PlainSpec) (table : Table) (rule : ℕ) → AreTablesOf spec table → IsEverChosen table rule ↔ IsEverChosenBy spec rule }
+    ensures one { (spec : PlainSpec) (table : Table) (condition rule : ℕ) → AreTablesOf spec table
+        → condition < length spec.conditions
+        → IsChosenIn table condition rule ↔ IsChosenBy spec condition rule }
+    ensures some { (spec : PlainSpec) (table : Table) (rule : ℕ) → AreTablesOf spec table
+        → IsEverChosen table rule ↔ IsEverChosenBy spec rule }
 {
     choice_is_by_rules();
     one_choice();

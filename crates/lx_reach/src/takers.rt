@@ -48,7 +48,8 @@ fn meet(search: &mut Search, alone: &Tables, all: &Tables, pair: Pair) -> Result
     requires pair { IsPair alone.now.machine all.now.machine pair }
     requires pairs { All (IsPair alone.now.machine all.now.machine) search.old.pairs.items }
     requires few { length search.old.pairs.items ≤ max_pairs }
-    ensures pairs { OnOk result (All (IsPair alone.now.machine all.now.machine) search.new.pairs.items) }
+    ensures pairs { OnOk result
+        (All (IsPair alone.now.machine all.now.machine) search.new.pairs.items) }
     ensures few { OnOk result (length search.new.pairs.items ≤ max_pairs) }
     ensures more { OnOk result (length search.old.pairs.items ≤ length search.new.pairs.items) }
 {
@@ -102,7 +103,8 @@ fn behind(alone: &Tables, all: &Tables, pair: Pair, place: usize, byte: u8) -> O
 fn meet_starts(search: &mut Search, alone: &Tables, all: &Tables) -> Result<(), AllocError>
     requires pairs { All (IsPair alone.now.machine all.now.machine) search.old.pairs.items }
     requires few { length search.old.pairs.items ≤ max_pairs }
-    ensures pairs { OnOk result (All (IsPair alone.now.machine all.now.machine) search.new.pairs.items) }
+    ensures pairs { OnOk result
+        (All (IsPair alone.now.machine all.now.machine) search.new.pairs.items) }
     ensures few { OnOk result (length search.new.pairs.items ≤ max_pairs) }
 {
     let conditions = all.conditions().min(alone.conditions());
@@ -123,7 +125,8 @@ fn meet_behind(
     requires pair { IsPair alone.now.machine all.now.machine pair }
     requires pairs { All (IsPair alone.now.machine all.now.machine) search.old.pairs.items }
     requires few { length search.old.pairs.items ≤ max_pairs }
-    ensures pairs { OnOk result (All (IsPair alone.now.machine all.now.machine) search.new.pairs.items) }
+    ensures pairs { OnOk result
+        (All (IsPair alone.now.machine all.now.machine) search.new.pairs.items) }
     ensures few { OnOk result (length search.new.pairs.items ≤ max_pairs) }
     ensures more { OnOk result (length search.old.pairs.items ≤ length search.new.pairs.items) }
 {
@@ -136,7 +139,8 @@ fn meet_behind(
 }
 
 fn searched(alloc: Global, alone: &Tables, all: &Tables) -> Result<Search, AllocError>
-    ensures { IfOk result (λ search. All (IsPair alone.now.machine all.now.machine) search.pairs.items) }
+    ensures { IfOk result
+        (λ search. All (IsPair alone.now.machine all.now.machine) search.pairs.items) }
 {
     let mut search = Search {
         pairs: Vec::new(alloc),
@@ -182,7 +186,8 @@ fn text_of(alloc: Global, pairs: &[Pair], place: usize) -> Result<Vec<u8>, Alloc
 /// 20,000 pairs of states would have to be examined. Err: an allocation failed.
 pub fn takers_of(alloc: Global, alone: &Tables, all: &Tables, of: u16) -> Result<Takers, AllocError>
     ensures of { IfOk result (λ takers. takers.of ≡ of) }
-    ensures rules { IfOk result (λ takers. All (IsTaker alone.now.machine all.now.machine) takers.rules.items) }
+    ensures rules { IfOk result
+        (λ takers. All (IsTaker alone.now.machine all.now.machine) takers.rules.items) }
 {
     let search = searched(alloc, alone, all)?;
     let mut rules = Vec::new(alloc);

@@ -91,7 +91,8 @@ fn push_source_byte(text: &mut Vec<u8>, byte: u8) -> Result<(), AllocError>
 
 /// Appends a part of a source line.
 pub(crate) fn push_source(text: &mut Vec<u8>, bytes: &[u8]) -> Result<(), AllocError>
-    ensures { OnOk result (text.new.items ≡ text.old.items ++ flat_map specs.source_byte bytes.now) }
+    ensures { OnOk result
+        (text.new.items ≡ text.old.items ++ flat_map specs.source_byte bytes.now) }
 {
     for byte in bytes {
         push_source_byte(text, *byte)?;
@@ -114,7 +115,8 @@ fn push_string_byte(text: &mut Vec<u8>, byte: u8) -> Result<(), AllocError>
 }
 
 fn push_string_bytes(text: &mut Vec<u8>, bytes: &[u8]) -> Result<(), AllocError>
-    ensures { OnOk result (text.new.items ≡ text.old.items ++ flat_map specs.string_byte bytes.now) }
+    ensures { OnOk result
+        (text.new.items ≡ text.old.items ++ flat_map specs.string_byte bytes.now) }
 {
     for byte in bytes {
         push_string_byte(text, *byte)?;

@@ -50,7 +50,8 @@ fn push_fault_line(
 ) -> Result<(), AllocError>
     requires code { diagnose.code_of diagnosis.now.cause ≡ fault.code }
     requires line { diagnosis.now.place.line ≡ fault.line }
-    ensures { OnOk result (TellsFault style.now.file.now (word_of fault.code) fault.line text.old.items text.new.items) }
+    ensures { OnOk result (TellsFault style.now.file.now (word_of fault.code) fault.line
+        text.old.items text.new.items) }
 {
     let words = sentence(alloc, diagnosis, source)?;
     push_line(
@@ -72,7 +73,8 @@ fn push_fault(
     source: &[u8],
     fault: SpecFault,
 ) -> Result<(), AllocError>
-    ensures { OnOk result (TellsFault style.now.file.now (word_of fault.code) fault.line text.old.items text.new.items) }
+    ensures { OnOk result (TellsFault style.now.file.now (word_of fault.code) fault.line
+        text.old.items text.new.items) }
 {
     let diagnosis = diagnose(alloc, source, fault)?;
     push_fault_line(alloc, text, style, source, &diagnosis, fault)?;
@@ -114,7 +116,8 @@ pub(crate) fn push_error(
     source: &[u8],
     finding: Finding,
 ) -> Result<(), AllocError>
-    ensures { OnOk result (TellsFault style.now.file.now (code_of finding) (line_of finding) text.old.items text.new.items) }
+    ensures { OnOk result (TellsFault style.now.file.now (code_of finding) (line_of finding)
+        text.old.items text.new.items) }
 {
     match finding {
         Finding::Specification(fault) => push_fault(alloc, text, style, source, fault),

@@ -71,7 +71,9 @@ pub fn push_finding(
     file: &[u8],
     finding: &Finding<'_>,
 ) -> Result<(), AllocError>
-    ensures { OnOk result (text.new.items ≡ text.old.items ++ specs.finding_line file.now finding.now.severity finding.now.place finding.now.code.now finding.now.words.now finding.now.name.now) }
+    ensures { OnOk result (text.new.items
+        ≡ text.old.items ++ specs.finding_line file.now finding.now.severity finding.now.place
+        finding.now.code.now finding.now.words.now finding.now.name.now) }
 {
     push_shown(text, file)?;
     push_place(text, finding.place)?;
@@ -144,7 +146,8 @@ fn push_source_line(
     column: usize,
     line: &[u8],
 ) -> Result<(), AllocError>
-    ensures { OnOk result (text.new.items ≡ text.old.items ++ specs.source_line number column line.now) }
+    ensures { OnOk result
+        (text.new.items ≡ text.old.items ++ specs.source_line number column line.now) }
 {
     push_numbered(text, b"    ", number)?;
     push(text, b" | ")?;
@@ -187,7 +190,8 @@ pub fn push_marked(
     width: usize,
     line: &[u8],
 ) -> Result<(), AllocError>
-    ensures { OnOk result (text.new.items ≡ text.old.items ++ specs.marked number column width line.now) }
+    ensures { OnOk result
+        (text.new.items ≡ text.old.items ++ specs.marked number column width line.now) }
 {
     let before = width_before(alloc, column, line)?;
     push_source_line(text, number, column, line)?;

@@ -23,7 +23,8 @@ pub(crate) fn push_shown_and(
     shown: &[u8],
     behind: &[u8],
 ) -> Result<(), AllocError>
-    ensures value { OnOk result (text.new.items ≡ text.old.items ++ (flat_map shown_byte shown.now ++ behind.now)) }
+    ensures value { OnOk result
+        (text.new.items ≡ text.old.items ++ (flat_map shown_byte shown.now ++ behind.now)) }
     ensures extends { OnOk result (Extends text.old.items text.new.items) }
 {
     push_shown(text, shown)?;
@@ -51,7 +52,8 @@ pub(crate) fn push_line(
     words: &[u8],
     name: &[u8],
 ) -> Result<(), AllocError>
-    ensures { OnOk result (text.new.items ≡ text.old.items ++ finding_line file.now severity place code.now words.now name.now) }
+    ensures { OnOk result (text.new.items
+        ≡ text.old.items ++ finding_line file.now severity place code.now words.now name.now) }
 {
     let finding = Finding {
         severity,

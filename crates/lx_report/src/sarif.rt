@@ -105,7 +105,9 @@ fn push_region(text: &mut Vec<u8>, place: Place) -> Result<(), AllocError>
 
 /// Appends a finding in the file with this name, as a result. Err: an allocation failed.
 pub fn push_result(text: &mut Vec<u8>, file: &[u8], finding: &Finding<'_>) -> Result<(), AllocError>
-    ensures { OnOk result (text.new.items ≡ text.old.items ++ specs.result_text file.now finding.now.severity finding.now.place finding.now.code.now finding.now.words.now finding.now.name.now) }
+    ensures { OnOk result (text.new.items
+        ≡ text.old.items ++ specs.result_text file.now finding.now.severity finding.now.place
+        finding.now.code.now finding.now.words.now finding.now.name.now) }
 {
     push_rule_id(text, finding.code, finding.name)?;
     push_level(text, finding.severity)?;

@@ -113,7 +113,8 @@ fn push_errors(
     source: &[u8],
     findings: &[Finding],
 ) -> Result<usize, AllocError>
-    ensures { IfOk result (λ _. text.old.items ≡ [] → TellsFirst style.now.file.now findings.now text.new.items) }
+    ensures { IfOk result
+        (λ _. text.old.items ≡ [] → TellsFirst style.now.file.now findings.now text.new.items) }
 {
     let Some((first, more)) = findings.split_first() else {
         return Ok(0);
@@ -131,8 +132,12 @@ pub fn report_of(
     source: &[u8],
     report: &Report,
 ) -> Result<Said, AllocError>
-    ensures verdict { IfOk result (λ said. TellsVerdict style.now.file.now report.now said.text.items) }
-    ensures warnings { IfOk result (λ said. IfAccepted (λ accepted. TellsWarnings style.now.file.now style.now.quiet (has_kind style.now.asked) said.warnings said.text.items) report.now) }
+    ensures verdict { IfOk result
+        (λ said. TellsVerdict style.now.file.now report.now said.text.items) }
+    ensures warnings { IfOk result (λ said.
+        IfAccepted (λ accepted.
+        TellsWarnings style.now.file.now style.now.quiet (has_kind style.now.asked)
+        said.warnings said.text.items) report.now) }
 {
     let mut text = Vec::new(alloc);
     let warnings = match report {

@@ -42,7 +42,8 @@ pub(crate) fn push_warning(
     source: &[u8],
     warning: &Warning,
 ) -> Result<(), AllocError>
-    ensures tells { OnOk result (TellsWarning style.now.file.now warning.now.kind text.old.items text.new.items) }
+    ensures tells { OnOk result
+        (TellsWarning style.now.file.now warning.now.kind text.old.items text.new.items) }
     ensures extends { OnOk result (Extends text.old.items text.new.items) }
 {
     push_line(
@@ -84,7 +85,9 @@ fn push_warnings(
     accepted: &Accepted,
 ) -> Result<usize, AllocError>
     ensures none { IfOk result (λ count. count ≡ 0 → text.new.items ≡ text.old.items) }
-    ensures first { IfOk result (λ count. 0 < count → text.old.items ≡ [] → BeginsWithWarning style.now.file.now (has_kind style.now.asked) text.new.items) }
+    ensures first { IfOk result (λ count.
+        0 < count → text.old.items ≡ []
+        → BeginsWithWarning style.now.file.now (has_kind style.now.asked) text.new.items) }
 {
     let warnings = warnings_in(alloc, style, source, accepted)?;
     let Some((first, more)) = warnings.told.split_first() else {
@@ -197,7 +200,10 @@ pub(crate) fn push_accepted(
     source: &[u8],
     accepted: &Accepted,
 ) -> Result<usize, AllocError>
-    ensures { IfOk result (λ count. text.old.items ≡ [] → TellsWarnings style.now.file.now style.now.quiet (has_kind style.now.asked) count text.new.items) }
+    ensures { IfOk result (λ count.
+        text.old.items ≡ []
+        → TellsWarnings style.now.file.now style.now.quiet (has_kind style.now.asked) count
+        text.new.items) }
 {
     let count = push_warnings(alloc, text, style, source, accepted)?;
     if style.quiet {

@@ -24,7 +24,8 @@ fn is_active(spec: &Spec, rule: &Rule, condition: u16) -> bool
 // Returns true if the rule is active in the condition, at line begin or not.
 fn is_active_at(spec: &Spec, rule: &Rule, condition: u16, begin: bool) -> bool
     requires { condition < length (spec_view spec.now).conditions }
-    ensures { (result ≡ true) ↔ IsActiveAt (spec_view spec.now) (rule_view rule.now) condition begin }
+    ensures { (result ≡ true)
+        ↔ IsActiveAt (spec_view spec.now) (rule_view rule.now) condition begin }
 {
     is_active(spec, rule, condition) && (begin || !rule.pattern.line_begin)
 }

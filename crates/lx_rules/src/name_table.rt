@@ -14,7 +14,9 @@ pub fn add_number(
     name: &[u8],
     number: usize,
 ) -> Result<(), AllocError>
-    ensures { OnOk result ((q : List ℕ) → number_at numbers.new q ≡ option_or (number_at numbers.old q) (cond (pointwise nat_eq name.now q) (Some number) None)) }
+    ensures { OnOk result ((q : List ℕ)
+        → number_at numbers.new q ≡ option_or (number_at numbers.old q)
+        (cond (pointwise nat_eq name.now q) (Some number) None)) }
 {
     if !numbers.contains_key(name) {
         numbers.insert(Vec::from_slice(alloc, name)?, number)?;

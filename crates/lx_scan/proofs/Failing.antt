@@ -11,7 +11,7 @@ use Rattle.lx_scan.specs.Failing.{IsFailed}
 use Rattle.lx_scan.proofs.Stepping.{HasRead, nothing_read, reads_on, state_after_both}
 use Rattle.lx_scan.proofs.Turns.{drop_further}
 
--- ---- one byte 
+-- ---- one byte
 --  the answers of a state, with a missing step and with a step
 answers_none : (m : Machine) (w : List ℕ) → accepted_at m (state_after m None w) ≡ None
 answers_none m w = refl

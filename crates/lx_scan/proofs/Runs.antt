@@ -38,7 +38,7 @@ items_more table start line (x ∷ es) e =
     let last = items_of_steps (steps_of_code table e.code) (line_of x.line es) (end_of x.offset es) (e.offset - end_of x.offset es) in
     ap (λ (xs : List Item). here ++ xs) (items_more table x.offset x.line es e) ∙ sym (append_assoc here (items_of_ends table x.offset x.line es) last)
 
--- ---- codes 
+-- ---- codes
 --  a match has ended if a step is missing
 ended_some : (table : Table) (state : Option ℕ) → ended table state ≢ 0
 ended_some table None e = absurd (omega arith)
@@ -77,7 +77,7 @@ last_column table is columns entries labels joined byte small =
     on true = ap (λ (t : Bool). if t then 1 else 0) (le-leb table.machine.width table.machine.width (omega arith))
     on false = ap (λ (t : Bool). if t then 1 else 0) (lt-leb table.machine.width (slice_index table.machine.classes byte) (is.machine.below byte small))
 
--- ---- a run 
+-- ---- a run
 --  From a place a run found these ends. It has read this number of bytes of the text, and is on this line and in this row.
 pub record Runs (table : Table) (text : List ℕ) (from : Place) (ends : List End) (read line row : ℕ) : Type 0 where
   pub place : Place

@@ -16,7 +16,7 @@ use Rattle.lx_scan.specs.Steps.{condition_after, items_of_steps, newlines}
 use Rattle.lx_scan.proofs.Actions.{condition_known, steps_known}
 use Rattle.lx_scan.proofs.Choosing.{by_answers, chosen_there}
 
--- ---- the rest of a text 
+-- ---- the rest of a text
 --  after its first byte
 pub drop_tail : (text : List ℕ) (p byte : ℕ) (rest : List ℕ) → drop p text ≡ byte ∷ rest → drop (suc p) text ≡ rest
 drop_tail [] p byte rest e = absurd (let nothing : [] ≡ byte ∷ rest = sym (drop-nil p) ∙ e in cc)
@@ -46,7 +46,7 @@ line_behind text line start len is =
     = ap newlines (take-add start len text) ∙ newlines_both (take start text) (take len (drop start text)) in
     omega (arith, both, is)
 
--- ---- a match 
+-- ---- a match
 --  a choice takes bytes that exist, and leads to a condition that exists
 pub record Takes (table : Table) (rest : List ℕ) (place : Place) (choice : Option (ℕ × ℕ)) : Type 0 where
   pub some : 0 < len_at choice
@@ -86,7 +86,7 @@ len_of_match m alone = at m.rule m.len alone
     at None len alone = sym (alone refl)
     at (Some r) len alone = refl
 
--- ---- items 
+-- ---- items
 --  A match takes the bytes up to its end; the next items are those of the rest after them.
 items_behind : (table : Table) (rest : List ℕ) (taken : ℕ) (place : Place) → items_from table rest taken place ≡ items_from table (drop taken rest) 0 place
 items_behind table [] zero place = refl

@@ -28,7 +28,7 @@ IsByAnswers table condition begin text choice =
     MatchOption choice ((m rule n : ℕ) → IsAnswered table condition begin text m rule n → ⊥)
     (λ found. IsGreatest table condition begin text found.0 found.1)
 
--- ---- the same as a function 
+-- ---- the same as a function
 --  the answer after m bytes, with m, if it is a rule that has a token there
 abbrev pub match_after : Table → Option ℕ → ℕ → Option (ℕ × ℕ)
 match_after table None m = None

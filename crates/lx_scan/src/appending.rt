@@ -44,13 +44,17 @@ fn append_run(
     items: &mut ItemList,
 ) -> Result<Reached, AllocError>
     requires table { IsTable tables.now }
-    requires joined { IsJoined tables.now joined.now.columns.items joined.now.entries.items joined.now.labels.items }
+    requires joined { IsJoined tables.now joined.now.columns.items joined.now.entries.items
+        joined.now.labels.items }
     requires place { IsPlace tables.now text.now from }
     requires more { from.offset < length text.now }
     requires room { most ≤ length ends.old }
     ensures place { IfOk result (λ reached. IsPlace tables.now text.now reached.place) }
-    ensures items { IfOk result (λ reached. Appends items.old items.new (items_after tables.now text.now from) (items_after tables.now text.now reached.place)) }
-    ensures further { IfOk result (λ reached. IsTrue reached.is_full → from.offset < reached.place.offset) }
+    ensures items { IfOk result (λ reached.
+        Appends items.old items.new (items_after tables.now text.now from)
+        (items_after tables.now text.now reached.place)) }
+    ensures further { IfOk result
+        (λ reached. IsTrue reached.is_full → from.offset < reached.place.offset) }
     ensures few { OnOk result (length items.new ≤ length items.old + most) }
 {
     let run = find_ends(tables, joined, text, from, most, ends);
@@ -88,7 +92,9 @@ pub(crate) fn append_runs(
     requires place { IsPlace tables.now text.now from }
     requires few { length items.old ≤ most }
     ensures place { IfOk result (λ reached. IsPlace tables.now text.now reached.place) }
-    ensures items { IfOk result (λ reached. Appends items.old items.new (items_after tables.now text.now from) (items_after tables.now text.now reached.place)) }
+    ensures items { IfOk result (λ reached.
+        Appends items.old items.new (items_after tables.now text.now from)
+        (items_after tables.now text.now reached.place)) }
     ensures most { OnOk result (length items.new ≤ most) }
 {
     let mut place = from;

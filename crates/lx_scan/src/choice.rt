@@ -28,7 +28,8 @@ fn latest(
 ) -> Option<(u16, usize)>
     requires state { state.0 < state_count tables.now.machine }
     requires some { 0 < read }
-    ensures { result ≡ option_or (match_after tables.now (accepted_by tables.now.machine state.0) read) last }
+    ensures { result
+        ≡ option_or (match_after tables.now (accepted_by tables.now.machine state.0) read) last }
 {
     match tables.accepts(state) {
         Some(rule) if has_token(tables, rule, read) => Some((rule, read)),

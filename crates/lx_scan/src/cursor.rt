@@ -63,16 +63,20 @@ pub(crate) fn item_of(step: Step, line: u64, start: usize, len: usize) -> Option
 impl Cursor {
     /// Returns the cursor before the first item of a text.
     pub fn begin() -> Cursor
-        ensures items { (table : Table) (text : List ℕ) → items_left table text result ≡ items_of table text }
-        ensures in_text { (table : Table) (text : List ℕ) → IsTable table → IsInText table text result }
+        ensures items { (table : Table) (text : List ℕ)
+            → items_left table text result ≡ items_of table text }
+        ensures in_text { (table : Table) (text : List ℕ) → IsTable table
+            → IsInText table text result }
     {
         Cursor::at(Place::begin())
     }
 
     // Returns the cursor before the first item from a place on.
     fn at(place: Place) -> Cursor
-        ensures items { (table : Table) (text : List ℕ) → items_left table text result ≡ items_after table text place }
-        ensures in_text { (table : Table) (text : List ℕ) → IsPlace table text place → IsInText table text result }
+        ensures items { (table : Table) (text : List ℕ)
+            → items_left table text result ≡ items_after table text place }
+        ensures in_text { (table : Table) (text : List ℕ) → IsPlace table text place
+            → IsInText table text result }
     {
         Cursor {
             found: Match {
@@ -89,7 +93,8 @@ impl Cursor {
     /// Returns the number of bytes before the next part of the text that it will read.
     pub fn offset(&self) -> usize
         ensures place { result ≡ self.now.place.offset }
-        ensures within { (table : Table) (text : List ℕ) → IsInText table text self.now → result ≤ length text }
+        ensures within { (table : Table) (text : List ℕ) → IsInText table text self.now
+            → result ≤ length text }
     {
         self.place.offset
     }
@@ -100,7 +105,8 @@ impl Cursor {
         ensures same { self.new ≡ record self.old { done = self.new.done } }
         ensures items { items_of_steps (steps_left tables.now self.old) self.old.line self.old.found.start self.old.found.len
             ≡ listed result ++ items_of_steps (steps_left tables.now self.new) self.old.line self.old.found.start self.old.found.len }
-        ensures none { IfNone result (items_of_steps (steps_left tables.now self.new) self.old.line self.old.found.start self.old.found.len ≡ []) }
+        ensures none { IfNone result (items_of_steps (steps_left tables.now self.new) self.old.line
+            self.old.found.start self.old.found.len ≡ []) }
     {
         let steps = steps_of_match(tables, self.found);
         while self.done < steps.len() {
@@ -118,7 +124,8 @@ impl Cursor {
     pub fn next_item(&mut self, tables: &Tables, text: &[u8]) -> Option<Item>
         requires { IsInText tables.now text.now self.old }
         ensures in_text { IsInText tables.now text.now self.new }
-        ensures items { items_left tables.now text.now self.old ≡ listed result ++ items_left tables.now text.now self.new }
+        ensures items { items_left tables.now text.now self.old
+            ≡ listed result ++ items_left tables.now text.now self.new }
         ensures end { IfNone result (items_left tables.now text.now self.new ≡ []) }
     {
         let mut item = self.next_at_match(tables);
@@ -146,7 +153,8 @@ impl Cursor {
         requires memory { IsMemoryOf tables.now text.now memory.old }
         ensures in_text { IsInText tables.now text.now self.new }
         ensures memory { IsMemoryOf tables.now text.now memory.new }
-        ensures items { items_left tables.now text.now self.old ≡ listed result ++ items_left tables.now text.now self.new }
+        ensures items { items_left tables.now text.now self.old
+            ≡ listed result ++ items_left tables.now text.now self.new }
         ensures end { IfNone result (items_left tables.now text.now self.new ≡ []) }
     {
         let mut item = self.next_at_match(tables);
@@ -178,7 +186,9 @@ impl Cursor {
         requires memory { IsMemoryOf tables.now text.now memory.old }
         ensures in_text { IsInText tables.now text.now self.new }
         ensures memory { IsMemoryOf tables.now text.now memory.new }
-        ensures items { OnOk result (Appends items.old items.new (items_left tables.now text.now self.old) (items_left tables.now text.now self.new)) }
+        ensures items { OnOk result (Appends items.old items.new
+            (items_left tables.now text.now self.old)
+            (items_left tables.now text.now self.new)) }
         ensures most { OnOk result (length items.new ≤ most) }
     {
         if self.place.offset < memory.stop || self.done < steps_of_match(tables, self.found).len() {
@@ -206,9 +216,12 @@ impl Cursor {
         requires memory { IsMemoryOf tables.now text.now memory.old }
         ensures in_text { IsInText tables.now text.now self.new }
         ensures memory { IsMemoryOf tables.now text.now memory.new }
-        ensures items { OnOk result (Appends items.old items.new (items_left tables.now text.now self.old) (items_left tables.now text.now self.new)) }
+        ensures items { OnOk result (Appends items.old items.new
+            (items_left tables.now text.now self.old)
+            (items_left tables.now text.now self.new)) }
         ensures most { OnOk result (length items.new ≤ most) }
-        ensures end { OnOk result (length items.new < most → items_left tables.now text.now self.new ≡ []) }
+        ensures end { OnOk result
+            (length items.new < most → items_left tables.now text.now self.new ≡ []) }
         ensures err { OnErr result (self.new ≡ self.old) }
     {
         let mut cursor = *self;

@@ -73,13 +73,15 @@ pub(crate) fn find_ends(
     ends: &mut [End],
 ) -> Run
     requires table { IsTable tables.now }
-    requires joined { IsJoined tables.now joined.now.columns.items joined.now.entries.items joined.now.labels.items }
+    requires joined { IsJoined tables.now joined.now.columns.items joined.now.entries.items
+        joined.now.labels.items }
     requires place { IsPlace tables.now text.now place }
     requires more { place.offset < length text.now }
     requires room { most ≤ length ends.old }
     ensures count { result.count ≤ most }
     ensures within { result.count ≤ length ends.new }
-    ensures ends { 0 < result.count → LeadTo tables.now text.now place (take result.count ends.new) (place_behind text.now place (take result.count ends.new) result.condition) }
+    ensures ends { 0 < result.count → LeadTo tables.now text.now place (take result.count ends.new)
+        (place_behind text.now place (take result.count ends.new) result.condition) }
 {
     let columns = joined.columns.as_slice();
     let entries = joined.entries.as_slice();

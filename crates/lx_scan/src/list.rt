@@ -35,7 +35,8 @@ impl Model for ItemList {
 
 // Makes room for `count` items.
 fn make_room(room: &mut Vec<FlatItem>, count: usize) -> Result<(), AllocError>
-    ensures same { (n : ℕ) → n ≤ length room.old.items → take n room.new.items ≡ take n room.old.items }
+    ensures same { (n : ℕ) → n ≤ length room.old.items
+        → take n room.new.items ≡ take n room.old.items }
     ensures more { length room.old.items ≤ length room.new.items }
     ensures enough { OnOk result (count ≤ length room.new.items) }
 {
@@ -83,7 +84,8 @@ fn place_items(
     requires labels { AreLabels tables.now labels.now }
     requires ends { AreEnds tables.now from.offset ends.now }
     requires room { at + length ends.now ≤ length room.old }
-    ensures items { take result.len room.new ≡ take at room.old ++ items_of_ends tables.now from.offset from.line ends.now }
+    ensures items { take result.len room.new
+        ≡ take at room.old ++ items_of_ends tables.now from.offset from.line ends.now }
     ensures few { result.len ≤ at + length ends.now }
     ensures within { result.len ≤ length room.new }
     ensures offset { result.offset ≡ end_of from.offset ends.now }
@@ -186,7 +188,8 @@ impl ItemList {
     ) -> Result<(usize, u64), AllocError>
         requires labels { AreLabels tables.now labels.now }
         requires ends { AreEnds tables.now from.offset ends.now }
-        ensures items { OnOk result (self.new ≡ self.old ++ items_of_ends tables.now from.offset from.line ends.now) }
+        ensures items { OnOk result
+            (self.new ≡ self.old ++ items_of_ends tables.now from.offset from.line ends.now) }
         ensures few { OnOk result (length self.new ≤ length self.old + length ends.now) }
         ensures offset { IfOk result (λ end. end.0 ≡ end_of from.offset ends.now) }
         ensures line { IfOk result (λ end. end.1 ≡ line_of from.line ends.now) }

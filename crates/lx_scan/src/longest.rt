@@ -31,8 +31,12 @@ struct Found {
 fn accept_at(tables: &Tables, state: State, at: usize, read: usize, found: &mut Found)
     requires state { state.0 < state_count tables.now.machine }
     requires some { 0 < read }
-    ensures last { found.new.last ≡ option_or (match_after tables.now (accepted_by tables.now.machine state.0) read) found.old.last }
-    ensures since { MatchOption (accepted_by tables.now.machine state.0) ((found.new.since ≡ found.old.since) × (found.new.state.0 ≡ found.old.state.0)) (λ _. (found.new.since ≡ at) × (found.new.state.0 ≡ state.0)) }
+    ensures last { found.new.last
+        ≡ option_or (match_after tables.now (accepted_by tables.now.machine state.0) read)
+        found.old.last }
+    ensures since { MatchOption (accepted_by tables.now.machine state.0)
+        ((found.new.since ≡ found.old.since) × (found.new.state.0 ≡ found.old.state.0))
+        (λ _. (found.new.since ≡ at) × (found.new.state.0 ≡ state.0)) }
 {
     if let Some(rule) = tables.accepts(state) {
         if has_token(tables, rule, read) {
@@ -50,7 +54,9 @@ fn run_from(tables: &Tables, text: &[u8], place: Place, memory: &ScanMemory) -> 
     requires known { place.condition < length tables.now.machine.starts }
     requires within { place.offset ≤ length text.now }
     requires memory { IsMemoryOf tables.now text.now memory.now }
-    ensures last { result.0.last ≡ furthest tables.now place.condition place.at_line_begin (drop place.offset text.now) (length (drop place.offset text.now)) }
+    ensures last { result.0.last
+        ≡ furthest tables.now place.condition place.at_line_begin (drop place.offset text.now)
+        (length (drop place.offset text.now)) }
     ensures failed { IsFailed tables.now.machine (drop result.0.since text.now) result.0.state.0 }
     ensures state { result.0.state.0 < state_count tables.now.machine }
     ensures order { result.0.since ≤ result.1 }

@@ -123,7 +123,8 @@ impl ScanMemory {
     #[inline(always)]
     pub(crate) fn has_failed(&self, place: usize, state: State) -> bool
         requires { state.0 < 65535 }
-        ensures { IsTrue result → (table : Table) (text : List ℕ) → IsMemoryOf table text self.now → IsFailed table.machine (drop place text) state.0 }
+        ensures { IsTrue result → (table : Table) (text : List ℕ) → IsMemoryOf table text self.now
+            → IsFailed table.machine (drop place text) state.0 }
     {
         place % SPACING == 0 && !self.marks.is_empty() && self.is_kept(place, state)
     }
@@ -133,14 +134,16 @@ impl ScanMemory {
     fn is_kept(&self, place: usize, state: State) -> bool
         requires place { place % 32 ≡ 0 }
         requires state { state.0 < 65535 }
-        ensures { IsTrue result → (table : Table) (text : List ℕ) → IsMemoryOf table text self.now → IsFailed table.machine (drop place text) state.0 }
+        ensures { IsTrue result → (table : Table) (text : List ℕ) → IsMemoryOf table text self.now
+            → IsFailed table.machine (drop place text) state.0 }
     {
         is_marked(&self.marks, place, state.0 as u16 + 1) || is_among(&self.others, place, state)
     }
 
     // Makes room for the numbers of a text, unless an allocation fails.
     pub(crate) fn make_room(&mut self, len: usize)
-        ensures { (table : Table) (text : List ℕ) → IsMemoryOf table text self.old → IsMemoryOf table text self.new }
+        ensures { (table : Table) (text : List ℕ) → IsMemoryOf table text self.old
+            → IsMemoryOf table text self.new }
     {
         if self.marks.is_empty() {
             let _ = self.marks.resize((len / SPACING + 1) * STATES, 0);
@@ -149,7 +152,8 @@ impl ScanMemory {
 
     // Makes room for the further states, unless an allocation fails.
     fn make_room_beside(&mut self)
-        ensures { (table : Table) (text : List ℕ) → IsMemoryOf table text self.old → IsMemoryOf table text self.new }
+        ensures { (table : Table) (text : List ℕ) → IsMemoryOf table text self.old
+            → IsMemoryOf table text self.new }
     {
         if self.others.is_empty() {
             let _ = self.others.resize(OTHERS, None);
@@ -158,7 +162,8 @@ impl ScanMemory {
 
     // Keeps a state among the further ones, if the one that is kept there is for a position before `from`.
     fn keep_beside(&mut self, place: usize, state: State, from: usize)
-        ensures { (table : Table) (text : List ℕ) → IsMemoryOf table text self.old → IsFailed table.machine (drop place text) state.0 → IsMemoryOf table text self.new }
+        ensures { (table : Table) (text : List ℕ) → IsMemoryOf table text self.old
+            → IsFailed table.machine (drop place text) state.0 → IsMemoryOf table text self.new }
     {
         self.make_room_beside();
         let index = index_of(place, state);
@@ -174,7 +179,8 @@ impl ScanMemory {
     #[inline(always)]
     pub(crate) fn keep(&mut self, place: usize, state: State, from: usize)
         requires { state.0 < 65535 }
-        ensures { (table : Table) (text : List ℕ) → IsMemoryOf table text self.old → IsFailed table.machine (drop place text) state.0 → IsMemoryOf table text self.new }
+        ensures { (table : Table) (text : List ℕ) → IsMemoryOf table text self.old
+            → IsFailed table.machine (drop place text) state.0 → IsMemoryOf table text self.new }
     {
         if place % SPACING != 0 {
             return;

@@ -19,7 +19,9 @@ pub fn choice_is_by_rules()
 
 /// States a law: by the rules of a specification there is one choice for a text, in each condition, at line begin or not.
 pub fn one_choice()
-    ensures { (spec : PlainSpec) (condition : ℕ) (begin : Bool) (text : List ℕ) (x y : Option (ℕ × ℕ)) → IsChoice spec condition begin text x → IsChoice spec condition begin text y → x ≡ y }
+    ensures { (spec : PlainSpec) (condition : ℕ) (begin : Bool) (text : List ℕ)
+        (x y : Option (ℕ × ℕ)) → IsChoice spec condition begin text x
+        → IsChoice spec condition begin text y → x ≡ y }
 {}
 
 /// States a law: by the tables of a specification, every text of bytes has its items by the rules.
@@ -30,12 +32,15 @@ pub fn items_are_by_rules()
 
 /// States a law: by the rules of a specification, a text has one list of items.
 pub fn one_list_of_items()
-    ensures { (spec : PlainSpec) (text : List ℕ) (xs ys : List Item) → AreItemsBy spec text xs → AreItemsBy spec text ys → xs ≡ ys }
+    ensures { (spec : PlainSpec) (text : List ℕ) (xs ys : List Item) → AreItemsBy spec text xs
+        → AreItemsBy spec text ys → xs ≡ ys }
 {}
 
 /// States a law: by the rules of a specification each text has a list of items, and a choice in each condition, at line begin or not. This also holds
 /// if no automaton of the specification is within the limits.
 pub fn some_list_of_items()
-    ensures choice { (spec : PlainSpec) (condition : ℕ) (begin : Bool) (text : List ℕ) → (choice : Option (ℕ × ℕ)) × IsChoice spec condition begin text choice }
-    ensures items { (spec : PlainSpec) (text : List ℕ) → (items : List Item) × AreItemsBy spec text items }
+    ensures choice { (spec : PlainSpec) (condition : ℕ) (begin : Bool) (text : List ℕ)
+        → (choice : Option (ℕ × ℕ)) × IsChoice spec condition begin text choice }
+    ensures items { (spec : PlainSpec) (text : List ℕ)
+        → (items : List Item) × AreItemsBy spec text items }
 {}

@@ -95,7 +95,8 @@ fn place_behind(tables: &Tables, rest: &[u8], place: Place, found: Match) -> Pla
     requires line { place.line ≤ place.offset + 1 }
     requires room { place.offset + length rest.now + 1 < 2 ^ 64 }
     ensures offset { result.offset ≡ place.offset + found.len }
-    ensures condition { result.condition ≡ condition_after (steps_at tables.now (choice_in found)) place.condition }
+    ensures condition { result.condition
+        ≡ condition_after (steps_at tables.now (choice_in found)) place.condition }
     ensures begin { result.at_line_begin ≡ nat_eq (slice_index rest.now (found.len - 1)) 10 }
     ensures line { result.line ≡ place.line + newlines (take found.len rest.now) }
     ensures few { result.line ≤ place.line + found.len }
@@ -116,7 +117,8 @@ pub fn next_match(tables: &Tables, text: &[u8], place: Place) -> Option<(Match, 
     requires known { place.condition < length tables.now.machine.starts }
     requires line_some { 1 ≤ place.line }
     requires line_few { place.line ≤ place.offset + 1 }
-    ensures { MatchOption result (place.offset ≡ length text.now) (λ found. GoesOn tables.now text.now place found.0 found.1) }
+    ensures { MatchOption result (place.offset ≡ length text.now)
+        (λ found. GoesOn tables.now text.now place found.0 found.1) }
 {
     if place.offset == text.len() {
         return None;
@@ -139,7 +141,8 @@ pub(crate) fn next_match_by(
     requires line_some { 1 ≤ place.line }
     requires line_few { place.line ≤ place.offset + 1 }
     requires memory { IsMemoryOf tables.now text.now memory.old }
-    ensures found { MatchOption result (place.offset ≡ length text.now) (λ found. GoesOn tables.now text.now place found.0 found.1) }
+    ensures found { MatchOption result (place.offset ≡ length text.now)
+        (λ found. GoesOn tables.now text.now place found.0 found.1) }
     ensures memory { IsMemoryOf tables.now text.now memory.new }
 {
     if place.offset == text.len() {

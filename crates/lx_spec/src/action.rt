@@ -108,7 +108,8 @@ fn condition_of(word: Word<'_>) -> Option<&[u8]>
 
 // Returns the only word of a group whose parenthesis is open.
 fn in_group<'t>(words: &[Word<'t>]) -> Option<Word<'t>>
-    ensures value { option_map (λ w. (word_view w, words_view (drop 2 words.now))) result ≡ plain.in_group (words_view words.now) }
+    ensures value { option_map (λ w. (word_view w, words_view (drop 2 words.now))) result
+        ≡ plain.in_group (words_view words.now) }
     ensures within { OnSome result (2 ≤ length words.now) }
 {
     let Some((word, behind)) = words.split_first() else {
@@ -125,7 +126,8 @@ fn in_group<'t>(words: &[Word<'t>]) -> Option<Word<'t>>
 
 // Returns one word, or one word in parentheses, with the number of words that this takes.
 fn operand_at<'t>(words: &[Word<'t>]) -> Option<(Word<'t>, usize)>
-    ensures value { option_map (λ r. (word_view r.0, words_view (drop r.1 words.now))) result ≡ plain.operand_at (words_view words.now) }
+    ensures value { option_map (λ r. (word_view r.0, words_view (drop r.1 words.now))) result
+        ≡ plain.operand_at (words_view words.now) }
     ensures within { IfSome result (λ r. r.1 ≤ length words.now) }
 {
     let Some((word, rest)) = words.split_first() else {
@@ -142,7 +144,8 @@ fn operand_at<'t>(words: &[Word<'t>]) -> Option<(Word<'t>, usize)>
 
 // Returns the statement, if a semicolon follows.
 fn ended<'t>(statement: Statement<'t>, words: &[Word]) -> Option<Statement<'t>>
-    ensures value { option_map (λ s. (statement_view s, words_view (drop 1 words.now))) result ≡ plain.ended (statement_view statement.entry) (words_view words.now) }
+    ensures value { option_map (λ s. (statement_view s, words_view (drop 1 words.now))) result
+        ≡ plain.ended (statement_view statement.entry) (words_view words.now) }
     ensures within { OnSome result (1 ≤ length words.now) }
 {
     let Some((next, _)) = words.split_first() else {
@@ -155,7 +158,8 @@ fn ended<'t>(statement: Statement<'t>, words: &[Word]) -> Option<Statement<'t>>
 }
 
 fn returned<'t>(word: Word<'t>, words: &[Word]) -> Option<Statement<'t>>
-    ensures value { option_map (λ s. (statement_view s, words_view (drop 1 words.now))) result ≡ plain.returned (plain.value_of (word_view word.entry)) (words_view words.now) }
+    ensures value { option_map (λ s. (statement_view s, words_view (drop 1 words.now))) result
+        ≡ plain.returned (plain.value_of (word_view word.entry)) (words_view words.now) }
     ensures within { OnSome result (1 ≤ length words.now) }
 {
     match value_of(word) {
@@ -165,7 +169,8 @@ fn returned<'t>(word: Word<'t>, words: &[Word]) -> Option<Statement<'t>>
 }
 
 fn begun<'t>(word: Word<'t>, words: &[Word]) -> Option<Statement<'t>>
-    ensures value { option_map (λ s. (statement_view s, words_view (drop 1 words.now))) result ≡ plain.begun (plain.condition_of (word_view word.entry)) (words_view words.now) }
+    ensures value { option_map (λ s. (statement_view s, words_view (drop 1 words.now))) result
+        ≡ plain.begun (plain.condition_of (word_view word.entry)) (words_view words.now) }
     ensures within { OnSome result (1 ≤ length words.now) }
 {
     match condition_of(word) {
@@ -176,7 +181,8 @@ fn begun<'t>(word: Word<'t>, words: &[Word]) -> Option<Statement<'t>>
 
 // Reads the words after `return`. Returns the statement with the number of these words.
 fn return_at<'t>(words: &[Word<'t>]) -> Option<(Statement<'t>, usize)>
-    ensures value { option_map (λ r. (statement_view r.0, words_view (drop r.1 words.now))) result ≡ plain.return_at (plain.operand_at (words_view words.now)) }
+    ensures value { option_map (λ r. (statement_view r.0, words_view (drop r.1 words.now))) result
+        ≡ plain.return_at (plain.operand_at (words_view words.now)) }
     ensures within { IfSome result (λ r. r.1 ≤ length words.now) }
 {
     let Some((word, n)) = operand_at(words) else {
@@ -190,7 +196,8 @@ fn return_at<'t>(words: &[Word<'t>]) -> Option<(Statement<'t>, usize)>
 
 // Reads the words after `BEGIN`. Returns the statement with the number of these words.
 fn begin_at<'t>(words: &[Word<'t>]) -> Option<(Statement<'t>, usize)>
-    ensures value { option_map (λ r. (statement_view r.0, words_view (drop r.1 words.now))) result ≡ plain.begin_at (plain.operand_at (words_view words.now)) }
+    ensures value { option_map (λ r. (statement_view r.0, words_view (drop r.1 words.now))) result
+        ≡ plain.begin_at (plain.operand_at (words_view words.now)) }
     ensures within { IfSome result (λ r. r.1 ≤ length words.now) }
 {
     let Some((word, n)) = operand_at(words) else {
@@ -204,7 +211,8 @@ fn begin_at<'t>(words: &[Word<'t>]) -> Option<(Statement<'t>, usize)>
 
 // Reads a statement whose first word is letters. Returns it with the number of words after that word.
 fn letters_at<'t>(text: &[u8], words: &[Word<'t>]) -> Option<(Statement<'t>, usize)>
-    ensures value { option_map (λ r. (statement_view r.0, words_view (drop r.1 words.now))) result ≡ plain.letters_at text.now (words_view words.now) }
+    ensures value { option_map (λ r. (statement_view r.0, words_view (drop r.1 words.now))) result
+        ≡ plain.letters_at text.now (words_view words.now) }
     ensures within { IfSome result (λ r. r.1 ≤ length words.now) }
 {
     if text == b"return".as_slice() {
@@ -246,7 +254,10 @@ fn read_statements<'t>(
     alloc: Global,
     words: &[Word<'t>],
 ) -> Result<Option<Vec<Statement<'t>>>, AllocError>
-    ensures { IfOk result (λ o. MatchOption o ((ss : List plain.Statement) → AreStatements 0 (words_view words.now) ss → ⊥) (λ v. AreStatements 0 (words_view words.now) (statements_view v.items))) }
+    ensures { IfOk result (λ o.
+        MatchOption o
+        ((ss : List plain.Statement) → AreStatements 0 (words_view words.now) ss → ⊥)
+        (λ v. AreStatements 0 (words_view words.now) (statements_view v.items))) }
 {
     let mut statements = Vec::new(alloc);
     let mut at: usize = 0;
@@ -293,7 +304,9 @@ fn is_bar(words: &[Word]) -> bool
 
 /// Reads a text as an action. Returns `None` if it is malformed.
 pub fn read_action<'t>(alloc: Global, text: &'t [u8]) -> Result<Option<Action<'t>>, AllocError>
-    ensures { IfOk result (λ o. MatchOption o ((a : plain.Action) → IsAction text.now a → ⊥) (λ a. IsAction text.now (action_view a))) }
+    ensures { IfOk result (λ o.
+        MatchOption o ((a : plain.Action) → IsAction text.now a → ⊥)
+        (λ a. IsAction text.now (action_view a))) }
 {
     let Some(words) = read_words(alloc, text)? else {
         return Ok(None);

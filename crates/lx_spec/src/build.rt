@@ -48,7 +48,9 @@ fn returned_by<'t>(statements: &[Statement<'t>]) -> Option<Value<'t>>
 
 // Adds a returned value to the kinds, if it is a name that isn't there yet.
 fn with_value(alloc: Global, kinds: KindIndex, value: Value) -> Result<KindIndex, AllocError>
-    ensures kinds { IfOk result (λ new. names_view new.kinds.items ≡ plain.with_kind (names_view kinds.kinds.items) (Some (value_view value.entry))) }
+    ensures kinds { IfOk result (λ new.
+        names_view new.kinds.items
+        ≡ plain.with_kind (names_view kinds.kinds.items) (Some (value_view value.entry))) }
     ensures one { IfOk result (λ new. vec_len new.kinds ≤ vec_len kinds.kinds + 1) }
 {
     match value {
@@ -63,7 +65,9 @@ fn with_returned(
     kinds: KindIndex,
     returned: Option<Value>,
 ) -> Result<KindIndex, AllocError>
-    ensures kinds { IfOk result (λ new. names_view new.kinds.items ≡ plain.with_kind (names_view kinds.kinds.items) (option_map value_view returned.entry)) }
+    ensures kinds { IfOk result (λ new.
+        names_view new.kinds.items ≡ plain.with_kind (names_view kinds.kinds.items)
+        (option_map value_view returned.entry)) }
     ensures one { IfOk result (λ new. vec_len new.kinds ≤ vec_len kinds.kinds + 1) }
 {
     match returned {
@@ -84,7 +88,8 @@ fn own_statements<'s, 'r>(action: &'s Action<'r>) -> &'s [Statement<'r>]
 
 // Collects the names that the rules return, in order of first appearance.
 fn kinds_of(alloc: Global, resolved: &[ResolvedRule]) -> Result<KindIndex, AllocError>
-    ensures kinds { IfOk result (λ kinds. names_view kinds.kinds.items ≡ plain.kinds_of (map resolved_view resolved.now)) }
+    ensures kinds { IfOk result
+        (λ kinds. names_view kinds.kinds.items ≡ plain.kinds_of (map resolved_view resolved.now)) }
     ensures few { IfOk result (λ kinds. vec_len kinds.kinds ≤ length resolved.now) }
 {
     let mut kinds = KindIndex::new(alloc);
@@ -118,7 +123,9 @@ fn steps_of(
     requires some { 0 < length start_conditions.now }
     requires few { length start_conditions.now ≤ max_start_conditions }
     requires kinds { vec_len kinds.now.kinds ≤ max_rules }
-    ensures { IfOk result (λ steps. steps.items ≡ plain.steps_of (map start_condition_view start_conditions.now) (names_view kinds.now.kinds.items) (statements_view statements.now)) }
+    ensures { IfOk result (λ steps.
+        steps.items ≡ plain.steps_of (map start_condition_view start_conditions.now)
+        (names_view kinds.now.kinds.items) (statements_view statements.now)) }
 {
     let mut steps = Vec::new(alloc);
     for statement in statements {
@@ -158,7 +165,10 @@ fn steps_before(
     requires some { 0 < length start_conditions.now }
     requires few { length start_conditions.now ≤ max_start_conditions }
     requires kinds { vec_len kinds.now.kinds ≤ max_rules }
-    ensures { IfOk result (λ steps. steps ≡ steps_before (map start_condition_view start_conditions.now) (names_view kinds.now.kinds.items) (action_view action.now) (steps_at_end (map rule_view rules.now))) }
+    ensures { IfOk result (λ steps.
+        steps ≡ steps_before (map start_condition_view start_conditions.now)
+        (names_view kinds.now.kinds.items) (action_view action.now)
+        (steps_at_end (map rule_view rules.now))) }
 {
     match action {
         Action::Shared => shared_steps(alloc, rules),
@@ -197,7 +207,11 @@ fn rules_of(
     requires few { length start_conditions.now ≤ max_start_conditions }
     requires kinds { vec_len kinds.now.kinds ≤ max_rules }
     requires same { vec_len resolved ≡ length raws.now }
-    ensures { IfOk result (λ rules. map rule_view rules.items ≡ plain.rules_of (map start_condition_view start_conditions.now) (names_view kinds.now.kinds.items) (map raw_rule_view raws.now) (map resolved_view resolved.entry.items)) }
+    ensures { IfOk result (λ rules.
+        map rule_view rules.items
+        ≡ plain.rules_of (map start_condition_view start_conditions.now)
+        (names_view kinds.now.kinds.items) (map raw_rule_view raws.now)
+        (map resolved_view resolved.entry.items)) }
 {
     let mut resolved = resolved;
     let mut rules = Vec::new(alloc);
@@ -215,7 +229,8 @@ fn conditions_from(
     alloc: Global,
     start_conditions: &[StartCondition],
 ) -> Result<Vec<Condition>, AllocError>
-    ensures conditions { IfOk result (λ v. map condition_view v.items ≡ map start_condition_view start_conditions.now) }
+    ensures conditions { IfOk result
+        (λ v. map condition_view v.items ≡ map start_condition_view start_conditions.now) }
     ensures len { IfOk result (λ v. vec_len v ≡ length start_conditions.now) }
 {
     let mut conditions = Vec::new(alloc);
@@ -239,10 +254,17 @@ pub fn spec_of(
 ) -> Result<Spec, AllocError>
     requires index { index.now.definitions.now ≡ sections.now.definitions.items }
     requires sections { AreWellFormed (sections_view sections.now) }
-    requires dictionary { IsDictionary (map raw_definition_view sections.now.definitions.items) (dictionary_view dictionary) }
-    requires resolves { AreResolved (map start_condition_view sections.now.start_conditions.items) (map raw_rule_view sections.now.rules.items) (map resolved_view resolved.items) }
-    requires clean { HoldsOfNone (Holds (symbols_of (sections_view sections.now) (trees_view dictionary.trees.items))) (cases (map raw_rule_view sections.now.rules.items)) }
-    ensures { IfOk result (λ s. AreSpec (symbols_of (sections_view sections.now) (trees_view dictionary.trees.items)) (map raw_rule_view sections.now.rules.items) (map resolved_view resolved.entry.items) (spec_view s)) }
+    requires dictionary { IsDictionary (map raw_definition_view sections.now.definitions.items)
+        (dictionary_view dictionary) }
+    requires resolves { AreResolved (map start_condition_view sections.now.start_conditions.items)
+        (map raw_rule_view sections.now.rules.items) (map resolved_view resolved.items) }
+    requires clean { HoldsOfNone
+        (Holds (symbols_of (sections_view sections.now) (trees_view dictionary.trees.items)))
+        (cases (map raw_rule_view sections.now.rules.items)) }
+    ensures { IfOk result (λ s.
+        AreSpec (symbols_of (sections_view sections.now) (trees_view dictionary.trees.items))
+        (map raw_rule_view sections.now.rules.items)
+        (map resolved_view resolved.entry.items) (spec_view s)) }
 {
     bounds_are_ordered();
     let kinds = kinds_of(alloc, &resolved)?;

@@ -32,8 +32,10 @@ pub(crate) fn read_prefix<'a>(
     rule: &RawRule<'a>,
     is_last: bool,
 ) -> Result<Vec<&'a [u8]>, SpecFault>
-    ensures checked { Checked (symbols_view symbols.now) (case_of (raw_rule_view rule.now) is_last plain.prefix_form ∷ []) result }
-    ensures names { IfOk result (λ names. texts_of names.items ≡ fields_in (raw_rule_view rule.now).prefix) }
+    ensures checked { Checked (symbols_view symbols.now)
+        (case_of (raw_rule_view rule.now) is_last plain.prefix_form ∷ []) result }
+    ensures names { IfOk result
+        (λ names. texts_of names.items ≡ fields_in (raw_rule_view rule.now).prefix) }
 {
     match rule.prefix {
         Prefix::Absent => Ok(Vec::new(alloc)),
@@ -64,7 +66,8 @@ pub(crate) fn check_names(
 ) -> Result<(), SpecFault>
     requires symbols { IsSymbolTable symbols.now }
     requires names { texts_of names.now ≡ fields_in (raw_rule_view rule.now).prefix }
-    ensures { Checked (symbols_view symbols.now) (case_of (raw_rule_view rule.now) is_last plain.prefix_name ∷ []) result }
+    ensures { Checked (symbols_view symbols.now)
+        (case_of (raw_rule_view rule.now) is_last plain.prefix_name ∷ []) result }
 {
     if are_declared(symbols.start_conditions, names) {
         Ok(())
@@ -86,7 +89,9 @@ fn check_pattern(
 ) -> Result<(), SpecFault>
     requires symbols { IsSymbolTable symbols.now }
     requires reading { IsPattern rule.now.pattern.now (reading_of pattern.now) }
-    ensures { Checked (symbols_view symbols.now) (case_of (raw_rule_view rule.now) is_last plain.reading ∷ case_of (raw_rule_view rule.now) is_last plain.undefined ∷ case_of (raw_rule_view rule.now) is_last plain.depth ∷ []) result }
+    ensures { Checked (symbols_view symbols.now) (case_of (raw_rule_view rule.now) is_last
+        plain.reading ∷ case_of (raw_rule_view rule.now) is_last plain.undefined
+        ∷ case_of (raw_rule_view rule.now) is_last plain.depth ∷ []) result }
 {
     one_reading();
     let mut row = Vec::new(alloc);
@@ -123,7 +128,9 @@ pub(crate) fn read_expression(
     is_last: bool,
 ) -> Result<Pattern, SpecFault>
     requires { IsSymbolTable symbols.now }
-    ensures checked { Checked (symbols_view symbols.now) (case_of (raw_rule_view rule.now) is_last plain.reading ∷ case_of (raw_rule_view rule.now) is_last plain.undefined ∷ case_of (raw_rule_view rule.now) is_last plain.depth ∷ []) result }
+    ensures checked { Checked (symbols_view symbols.now) (case_of (raw_rule_view rule.now) is_last
+        plain.reading ∷ case_of (raw_rule_view rule.now) is_last plain.undefined
+        ∷ case_of (raw_rule_view rule.now) is_last plain.depth ∷ []) result }
     ensures reading { IfOk result (λ p. IsPattern rule.now.pattern.now (reading_of p)) }
 {
     match read_pattern(alloc, rule.pattern) {
@@ -149,7 +156,8 @@ pub(crate) fn read_whole_action<'r>(
     rule: &'r RawRule,
     is_last: bool,
 ) -> Result<Action<'r>, SpecFault>
-    ensures checked { Checked (symbols_view symbols.now) (case_of (raw_rule_view rule.now) is_last plain.action_form ∷ []) result }
+    ensures checked { Checked (symbols_view symbols.now)
+        (case_of (raw_rule_view rule.now) is_last plain.action_form ∷ []) result }
     ensures action { IfOk result (λ a. IsAction rule.now.action.items (action_view a)) }
 {
     match read_action(alloc, &rule.action)? {
@@ -163,7 +171,8 @@ pub(crate) fn read_whole_action<'r>(
 
 fn begins_declared(start_conditions: &[StartCondition], statement: Statement) -> bool
     requires { 0 < length start_conditions.now }
-    ensures { result ≡ begin_is_declared (map start_condition_view start_conditions.now) (statement_view statement.entry) }
+    ensures { result ≡ begin_is_declared (map start_condition_view start_conditions.now)
+        (statement_view statement.entry) }
 {
     match statement {
         Statement::Begin(name) => condition_number(start_conditions, name).is_some(),
@@ -173,7 +182,9 @@ fn begins_declared(start_conditions: &[StartCondition], statement: Statement) ->
 
 fn all_begin_declared(start_conditions: &[StartCondition], statements: &[Statement]) -> bool
     requires { 0 < length start_conditions.now }
-    ensures { result ≡ list_all (λ s. begin_is_declared (map start_condition_view start_conditions.now) (statement_view s)) statements.now }
+    ensures { result ≡ list_all (λ s.
+        begin_is_declared (map start_condition_view start_conditions.now)
+        (statement_view s)) statements.now }
 {
     statements
         .iter()
@@ -189,7 +200,8 @@ pub(crate) fn check_begins(
 ) -> Result<(), SpecFault>
     requires symbols { IsSymbolTable symbols.now }
     requires action { IsAction rule.now.action.items (action_view action.now) }
-    ensures { Checked (symbols_view symbols.now) (case_of (raw_rule_view rule.now) is_last plain.begin_name ∷ []) result }
+    ensures { Checked (symbols_view symbols.now)
+        (case_of (raw_rule_view rule.now) is_last plain.begin_name ∷ []) result }
 {
     match action {
         Action::Shared => Ok(()),
@@ -214,7 +226,8 @@ pub(crate) fn check_next(
     is_last: bool,
 ) -> Result<(), SpecFault>
     requires { IsAction rule.now.action.items (action_view action.now) }
-    ensures { Checked (symbols_view symbols.now) (case_of (raw_rule_view rule.now) is_last plain.no_next ∷ []) result }
+    ensures { Checked (symbols_view symbols.now)
+        (case_of (raw_rule_view rule.now) is_last plain.no_next ∷ []) result }
 {
     match action {
         Action::Shared => if is_last {

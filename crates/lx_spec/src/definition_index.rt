@@ -21,7 +21,8 @@ pub struct DefinitionIndex<'s, 'a> {
 impl DefinitionIndex<'_, '_> {
     /// Returns the number of the first definition with this name.
     pub(crate) fn number_of(&self, name: &[u8]) -> Option<usize>
-        ensures { result ≡ plain.number_of (map raw_definition_view self.now.definitions.now) name.now }
+        ensures { result
+            ≡ plain.number_of (map raw_definition_view self.now.definitions.now) name.now }
     {
         self.numbers.get(name).copied()
     }

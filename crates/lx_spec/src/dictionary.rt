@@ -31,8 +31,11 @@ pub(crate) fn push_row(
     expr: &Expr,
     row: &mut Vec<usize>,
 ) -> Result<bool, AllocError>
-    ensures row { OnOk result (row.new.items ≡ row.old.items ++ row_of (map raw_definition_view index.now.definitions.now) (regex_of expr.now)) }
-    ensures all { IfOk result (λ all. all ≡ all_defined (map raw_definition_view index.now.definitions.now) (regex_of expr.now)) }
+    ensures row { OnOk result (row.new.items ≡ row.old.items
+        ++ row_of (map raw_definition_view index.now.definitions.now) (regex_of expr.now)) }
+    ensures all { IfOk result (λ all.
+        all ≡ all_defined (map raw_definition_view index.now.definitions.now)
+        (regex_of expr.now)) }
 {
     match expr {
         Expr::Nil | Expr::Set(_) => Ok(true),
@@ -69,8 +72,12 @@ fn row_in(
     index: &DefinitionIndex,
     tree: &Option<Expr>,
 ) -> Result<(Vec<usize>, bool), AllocError>
-    ensures row { IfOk result (λ r. r.0.items ≡ plain.row_in (map raw_definition_view index.now.definitions.now) (tree_view tree.now)) }
-    ensures incomplete { IfOk result (λ r. r.1 ≡ plain.is_incomplete (map raw_definition_view index.now.definitions.now) (tree_view tree.now)) }
+    ensures row { IfOk result (λ r.
+        r.0.items ≡ plain.row_in (map raw_definition_view index.now.definitions.now)
+        (tree_view tree.now)) }
+    ensures incomplete { IfOk result (λ r.
+        r.1 ≡ plain.is_incomplete (map raw_definition_view index.now.definitions.now)
+        (tree_view tree.now)) }
 {
     let mut row = Vec::new(alloc);
     match tree {
@@ -84,7 +91,8 @@ fn row_in(
 
 // Adds that definition i mentions those of a row.
 fn push_mentions(i: usize, row: &[usize], mentions: &mut Vec<Mention>) -> Result<(), AllocError>
-    ensures { OnOk result (mentions.new.items ≡ mentions.old.items ++ map (plain.mention_of i) row.now) }
+    ensures { OnOk result
+        (mentions.new.items ≡ mentions.old.items ++ map (plain.mention_of i) row.now) }
 {
     for j in row {
         mentions.push(Mention { from: i, to: *j })?;
@@ -100,7 +108,9 @@ fn with_definition(
     i: usize,
 ) -> Result<Dictionary, AllocError>
     requires { i < length index.now.definitions.now }
-    ensures { IfOk result (λ d. AddsTree (map raw_definition_view index.now.definitions.now) i (dictionary_view dictionary) (dictionary_view d)) }
+    ensures { IfOk result (λ d.
+        AddsTree (map raw_definition_view index.now.definitions.now) i
+        (dictionary_view dictionary) (dictionary_view d)) }
 {
     let Dictionary {
         mut trees,
@@ -121,7 +131,8 @@ fn with_definition(
 
 /// Reads each definition once.
 pub fn read_dictionary(alloc: Global, index: &DefinitionIndex) -> Result<Dictionary, AllocError>
-    ensures { IfOk result (λ d. IsDictionary (map raw_definition_view index.now.definitions.now) (dictionary_view d)) }
+    ensures { IfOk result (λ d.
+        IsDictionary (map raw_definition_view index.now.definitions.now) (dictionary_view d)) }
 {
     let mut dictionary = Dictionary {
         trees: Vec::new(alloc),

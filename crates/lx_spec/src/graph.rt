@@ -36,7 +36,8 @@ fn mentioners_of(
 ) -> Result<Vec<Vec<usize>>, AllocError>
     requires { AreBelow mentions.now count }
     ensures len { IfOk result (λ lists. vec_len lists ≡ count) }
-    ensures each { IfOk result (λ lists. (i j : ℕ) → Contains (list_at lists.items j) i ↔ IsMention mentions.now i j) }
+    ensures each { IfOk result
+        (λ lists. (i j : ℕ) → Contains (list_at lists.items j) i ↔ IsMention mentions.now i j) }
 {
     let mut mentioners = empty_lists(alloc, count)?;
     for mention in mentions {
@@ -47,7 +48,8 @@ fn mentioners_of(
 
 // Returns the numbers of the marked definitions.
 fn numbers_of(alloc: Global, marks: &[bool]) -> Result<Vec<usize>, AllocError>
-    ensures { IfOk result (λ numbers. (i : ℕ) → Contains numbers.items i ↔ IsTrue (is_marked marks.now i)) }
+    ensures { IfOk result
+        (λ numbers. (i : ℕ) → Contains numbers.items i ↔ IsTrue (is_marked marks.now i)) }
 {
     let mut numbers = Vec::new(alloc);
     for i in 0..marks.len() {
@@ -65,7 +67,8 @@ fn mark_all(
     pending: &mut Vec<usize>,
 ) -> Result<(), AllocError>
     requires { (i : ℕ) → Contains numbers.now i → i < vec_len marks.old }
-    ensures { OnOk result (AreMarked numbers.now marks.old.items marks.new.items pending.old.items pending.new.items) }
+    ensures { OnOk result (AreMarked numbers.now marks.old.items marks.new.items pending.old.items
+        pending.new.items) }
 {
     for number in numbers {
         if !marks[*number] {
@@ -84,7 +87,8 @@ pub(crate) fn spread(
 ) -> Result<Vec<bool>, AllocError>
     requires { AreBelow mentions.now (vec_len marks) }
     ensures len { IfOk result (λ m. vec_len m ≡ vec_len marks) }
-    ensures led { IfOk result (λ m. (i : ℕ) → IsTrue (is_marked m.items i) ↔ Leads mentions.now marks.items i) }
+    ensures led { IfOk result
+        (λ m. (i : ℕ) → IsTrue (is_marked m.items i) ↔ Leads mentions.now marks.items i) }
 {
     let mentioners = mentioners_of(alloc, marks.len(), mentions)?;
     // marked definitions whose mentioners may still be unmarked
@@ -100,8 +104,11 @@ pub(crate) fn spread(
 fn deepen(mentions: &[Mention], depths: &mut Vec<u8>)
     requires below { AreBelow mentions.now (vec_len depths.old) }
     ensures len { vec_len depths.new ≡ vec_len depths.old }
-    ensures sound { AreSound (IsMention mentions.now) depths.old.items → AreSound (IsMention mentions.now) depths.new.items }
-    ensures reach { (most : ℕ) → most < max_name_depth → Reach (IsMention mentions.now) depths.old.items most → Reach (IsMention mentions.now) depths.new.items (most + 1) }
+    ensures sound { AreSound (IsMention mentions.now) depths.old.items
+        → AreSound (IsMention mentions.now) depths.new.items }
+    ensures reach { (most : ℕ) → most < max_name_depth
+        → Reach (IsMention mentions.now) depths.old.items most
+        → Reach (IsMention mentions.now) depths.new.items (most + 1) }
 {
     for mention in mentions {
         let depth = depths[mention.from].max(depths[mention.to].min(MAX_NAME_DEPTH - 1) + 1);
@@ -117,7 +124,9 @@ pub(crate) fn depths_of(
 ) -> Result<Vec<u8>, AllocError>
     requires { AreBelow mentions.now count }
     ensures len { IfOk result (λ depths. vec_len depths ≡ count) }
-    ensures depths { IfOk result (λ depths. (i n : ℕ) → n ≤ max_name_depth → ((n ≤ slice_index depths.items i) ↔ Follow (IsMention mentions.now) n i)) }
+    ensures depths { IfOk result (λ depths.
+        (i n : ℕ) → n ≤ max_name_depth
+        → ((n ≤ slice_index depths.items i) ↔ Follow (IsMention mentions.now) n i)) }
 {
     let mut depths = vec![in alloc; 0; count]?;
     for _ in 0..MAX_NAME_DEPTH {

@@ -33,7 +33,8 @@ impl KindIndex {
 
     /// Returns the place of this name.
     pub(crate) fn place_of(&self, text: &[u8]) -> Option<usize>
-        ensures { result ≡ position (λ k. pointwise nat_eq k text.now) (names_view self.now.kinds.items) }
+        ensures { result
+            ≡ position (λ k. pointwise nat_eq k text.now) (names_view self.now.kinds.items) }
     {
         self.numbers.get(text).copied()
     }
@@ -45,7 +46,9 @@ pub(crate) fn with_name(
     index: KindIndex,
     text: &[u8],
 ) -> Result<KindIndex, AllocError>
-    ensures kinds { IfOk result (λ new. names_view new.kinds.items ≡ with_kind (names_view index.kinds.items) (Some (name text.now))) }
+    ensures kinds { IfOk result (λ new.
+        names_view new.kinds.items
+        ≡ with_kind (names_view index.kinds.items) (Some (name text.now))) }
     ensures one { IfOk result (λ new. vec_len new.kinds ≤ vec_len index.kinds + 1) }
 {
     if index.place_of(text).is_some() {

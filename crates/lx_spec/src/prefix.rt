@@ -21,7 +21,9 @@ fn field_len(text: &[u8]) -> usize
 
 // Splits a text at its first comma.
 fn next_field(text: &[u8]) -> (&[u8], Option<&[u8]>)
-    ensures { MatchOption result.1 (plain.fields_of text.now ≡ result.0.now ∷ []) (λ rest. (plain.fields_of text.now ≡ result.0.now ∷ plain.fields_of rest.now) × (length rest.now < length text.now)) }
+    ensures { MatchOption result.1 (plain.fields_of text.now ≡ result.0.now ∷ []) (λ rest.
+        (plain.fields_of text.now ≡ result.0.now ∷ plain.fields_of rest.now)
+        × (length rest.now < length text.now)) }
 {
     let n = field_len(text);
     match text[n..].split_first() {
@@ -54,7 +56,8 @@ pub(crate) fn are_condition_names(fields: &[&[u8]]) -> bool
 }
 
 fn place_in(start_conditions: &[StartCondition], name: &[u8]) -> Option<usize>
-    ensures place { result ≡ position (λ s. pointwise nat_eq s.name.now name.now) start_conditions.now }
+    ensures place { result
+        ≡ position (λ s. pointwise nat_eq s.name.now name.now) start_conditions.now }
     ensures within { IfSome result (λ i. i < length start_conditions.now) }
 {
     start_conditions.iter().position(|s| s.name == name)
@@ -69,7 +72,8 @@ fn is_zero(name: &[u8]) -> bool
 /// Returns the number of the condition with this name. `0` is `INITIAL`.
 pub(crate) fn condition_number(start_conditions: &[StartCondition], name: &[u8]) -> Option<usize>
     requires { 0 < length start_conditions.now }
-    ensures number { result ≡ plain.condition_number (map start_condition_view start_conditions.now) name.now }
+    ensures number { result
+        ≡ plain.condition_number (map start_condition_view start_conditions.now) name.now }
     ensures within { IfSome result (λ i. i < length start_conditions.now) }
 {
     if is_zero(name) {
@@ -81,7 +85,8 @@ pub(crate) fn condition_number(start_conditions: &[StartCondition], name: &[u8])
 
 fn is_declared(start_conditions: &[StartCondition], name: &[u8]) -> bool
     requires { 0 < length start_conditions.now }
-    ensures { result ≡ is_some (plain.condition_number (map start_condition_view start_conditions.now) name.now) }
+    ensures { result ≡ is_some
+        (plain.condition_number (map start_condition_view start_conditions.now) name.now) }
 {
     condition_number(start_conditions, name).is_some()
 }
@@ -89,7 +94,10 @@ fn is_declared(start_conditions: &[StartCondition], name: &[u8]) -> bool
 /// Returns true if each of the texts names a declared condition.
 pub(crate) fn are_declared(start_conditions: &[StartCondition], names: &[&[u8]]) -> bool
     requires { 0 < length start_conditions.now }
-    ensures { result ≡ list_all (λ f. is_some (plain.condition_number (map start_condition_view start_conditions.now) f.now)) names.now }
+    ensures { result ≡ list_all (λ f.
+        is_some
+        (plain.condition_number (map start_condition_view start_conditions.now) f.now))
+        names.now }
 {
     names
         .iter()

@@ -26,7 +26,9 @@ fn row_of_all(
     index: &DefinitionIndex,
     resolved: &[ResolvedRule],
 ) -> Result<Vec<usize>, AllocError>
-    ensures { IfOk result (λ row. row.items ≡ flat_map (row_of (map raw_definition_view index.now.definitions.now)) (patterns_in (map resolved_view resolved.now))) }
+    ensures { IfOk result (λ row.
+        row.items ≡ flat_map (row_of (map raw_definition_view index.now.definitions.now))
+        (patterns_in (map resolved_view resolved.now))) }
 {
     let mut row = Vec::new(alloc);
     for i in 0..resolved.len() {
@@ -53,7 +55,8 @@ fn turned(alloc: Global, mentions: &[Mention]) -> Result<Vec<Mention>, AllocErro
 fn marks_at(alloc: Global, count: usize, numbers: &[usize]) -> Result<Vec<bool>, AllocError>
     requires { (k : ℕ) → k < length numbers.now → slice_index numbers.now k < count }
     ensures len { IfOk result (λ marks. vec_len marks ≡ count) }
-    ensures set { IfOk result (λ marks. (i : ℕ) → IsTrue (is_marked marks.items i) ↔ Contains numbers.now i) }
+    ensures set { IfOk result
+        (λ marks. (i : ℕ) → IsTrue (is_marked marks.items i) ↔ Contains numbers.now i) }
 {
     let mut marks = vec![in alloc; false; count]?;
     for j in numbers {
@@ -69,7 +72,8 @@ fn reached_of(
     dictionary: &Dictionary,
     resolved: &[ResolvedRule],
 ) -> Result<Vec<bool>, AllocError>
-    requires { IsDictionary (map raw_definition_view index.now.definitions.now) (dictionary_view dictionary.now) }
+    requires { IsDictionary (map raw_definition_view index.now.definitions.now)
+        (dictionary_view dictionary.now) }
     ensures len { IfOk result (λ marks. vec_len marks ≡ length index.now.definitions.now) }
     ensures reached { IfOk result (λ marks. (i : ℕ) →
         IsTrue (is_marked marks.items i) ↔ IsReached (map raw_definition_view index.now.definitions.now) (trees_view dictionary.now.trees.items) (patterns_in (map resolved_view resolved.now)) i) }
@@ -113,8 +117,12 @@ fn marked_of(
 ) -> Result<Vec<Definition>, AllocError>
     requires trees { vec_len trees ≡ length raw_definitions.now }
     requires marks { length marks.now ≡ length raw_definitions.now }
-    requires readable { (i : ℕ) → IsTrue (is_marked marks.now i) → is_marked (unreadable_marks (trees_view trees.items)) i ≡ false }
-    ensures { IfOk result (λ v. AreReached (λ j. IsTrue (is_marked marks.now j)) 0 (map raw_definition_view raw_definitions.now) (trees_view trees.items) (map definition_view v.items)) }
+    requires readable { (i : ℕ) → IsTrue (is_marked marks.now i)
+        → is_marked (unreadable_marks (trees_view trees.items)) i ≡ false }
+    ensures { IfOk result (λ v.
+        AreReached (λ j. IsTrue (is_marked marks.now j)) 0
+        (map raw_definition_view raw_definitions.now) (trees_view trees.items)
+        (map definition_view v.items)) }
 {
     let mut rest = trees;
     let mut definitions = Vec::new(alloc);
@@ -139,9 +147,14 @@ pub(crate) fn definitions_of(
     dictionary: Dictionary,
     resolved: &[ResolvedRule],
 ) -> Result<Vec<Definition>, AllocError>
-    requires dictionary { IsDictionary (map raw_definition_view index.now.definitions.now) (dictionary_view dictionary) }
-    requires readable { AreReadable (map resolved_view resolved.now) (map raw_definition_view index.now.definitions.now) (trees_view dictionary.trees.items) }
-    ensures definitions { IfOk result (λ v. AreReachedBy (map resolved_view resolved.now) (map raw_definition_view index.now.definitions.now) (trees_view dictionary.trees.items) (map definition_view v.items)) }
+    requires dictionary { IsDictionary (map raw_definition_view index.now.definitions.now)
+        (dictionary_view dictionary) }
+    requires readable { AreReadable (map resolved_view resolved.now)
+        (map raw_definition_view index.now.definitions.now) (trees_view dictionary.trees.items) }
+    ensures definitions { IfOk result (λ v.
+        AreReachedBy (map resolved_view resolved.now)
+        (map raw_definition_view index.now.definitions.now)
+        (trees_view dictionary.trees.items) (map definition_view v.items)) }
     ensures few { IfOk result (λ v. vec_len v ≤ length index.now.definitions.now) }
 {
     let marks = reached_of(alloc, index, &dictionary, resolved)?;

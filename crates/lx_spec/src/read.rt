@@ -41,10 +41,20 @@ fn resolve_sections<'r, 't>(
     index: &'r DefinitionIndex<'r, 't>,
 ) -> Result<(Dictionary, Vec<ResolvedRule<'r>>), SpecFault>
     requires { index.now.definitions.now ≡ sections.now.definitions.items }
-    ensures fault { IfErr result (λ f. f ≢ out_of_memory → (trees : List (Option Regex)) × AreTrees (sections_view sections.now).definitions trees × IsFirstFault (symbols_of (sections_view sections.now) trees) (cases (sections_view sections.now).rules) f) }
-    ensures dictionary { IfOk result (λ r. IsDictionary (sections_view sections.now).definitions (dictionary_view r.0)) }
-    ensures clean { IfOk result (λ r. HoldsOfNone (Holds (symbols_of (sections_view sections.now) (trees_view r.0.trees.items))) (cases (sections_view sections.now).rules)) }
-    ensures resolves { IfOk result (λ r. AreResolved (sections_view sections.now).start_conditions (sections_view sections.now).rules (map resolved_view r.1.items)) }
+    ensures fault { IfErr result (λ f.
+        f ≢ out_of_memory → (trees : List (Option Regex))
+        × AreTrees (sections_view sections.now).definitions trees
+        × IsFirstFault (symbols_of (sections_view sections.now) trees)
+        (cases (sections_view sections.now).rules) f) }
+    ensures dictionary { IfOk result
+        (λ r. IsDictionary (sections_view sections.now).definitions (dictionary_view r.0)) }
+    ensures clean { IfOk result (λ r.
+        HoldsOfNone
+        (Holds (symbols_of (sections_view sections.now) (trees_view r.0.trees.items)))
+        (cases (sections_view sections.now).rules)) }
+    ensures resolves { IfOk result (λ r.
+        AreResolved (sections_view sections.now).start_conditions
+        (sections_view sections.now).rules (map resolved_view r.1.items)) }
 {
     let dictionary = read_dictionary(alloc, index)?;
     let faults = definition_faults_of(alloc, &dictionary)?;
@@ -84,7 +94,8 @@ pub fn read_spec(alloc: Global, text: &[u8]) -> Result<Spec, SpecFault>
 /// patterns by it.
 pub fn patterns_end()
     ensures there { (text : List ℕ) → IsPatternEnd text (pattern_end text) }
-    ensures one { (ends : List ℕ → ℕ) → ((text : List ℕ) → IsPatternEnd text (ends text)) → ends ≡ pattern_end }
+    ensures one { (ends : List ℕ → ℕ) → ((text : List ℕ) → IsPatternEnd text (ends text))
+        → ends ≡ pattern_end }
 {
     some_pattern_end();
     one_pattern_end();
@@ -94,7 +105,8 @@ pub fn patterns_end()
 pub fn one_verdict()
     ensures fault { (text : List ℕ) (e f : SpecFault) → IsFault text e → IsFault text f → e ≡ f }
     ensures spec { (text : List ℕ) (s t : PlainSpec) → IsRead text s → IsRead text t → s ≡ t }
-    ensures apart { (text : List ℕ) (s : PlainSpec) (f : SpecFault) → IsRead text s → IsFault text f → ⊥ }
+    ensures apart { (text : List ℕ) (s : PlainSpec) (f : SpecFault) → IsRead text s → IsFault text f
+        → ⊥ }
 {
     one_reading();
     one_substitute();
@@ -102,7 +114,8 @@ pub fn one_verdict()
 
 /// States a law: every text has a verdict: a first fault, or the specification that it is.
 pub fn some_verdict()
-    ensures { (text : List ℕ) → ((f : SpecFault) × IsFault text f) ⊎ ((spec : PlainSpec) × IsRead text spec) }
+    ensures { (text : List ℕ)
+        → ((f : SpecFault) × IsFault text f) ⊎ ((spec : PlainSpec) × IsRead text spec) }
 {
     some_reading();
     one_reading();

@@ -65,7 +65,8 @@ fn with_definition<'a>(
     name: &'a [u8],
     substitute: &'a [u8],
 ) -> Result<ParsedSections<'a>, SpecFault>
-    ensures { Gives sections_view result (plain.with_definition (sections_view sections.entry) number name.now substitute.now) }
+    ensures { Gives sections_view result
+        (plain.with_definition (sections_view sections.entry) number name.now substitute.now) }
 {
     if knows_definition(&sections.definitions, name) {
         return Err(SpecFault {
@@ -92,7 +93,8 @@ fn with_start_condition<'a>(
     exclusive: bool,
     name: &'a [u8],
 ) -> Result<ParsedSections<'a>, SpecFault>
-    ensures { Gives sections_view result (plain.with_start_condition (sections_view sections.entry) number exclusive name.now) }
+    ensures { Gives sections_view result
+        (plain.with_start_condition (sections_view sections.entry) number exclusive name.now) }
 {
     if knows_start_condition(&sections.start_conditions, name) {
         return Err(SpecFault {
@@ -119,7 +121,8 @@ fn with_start_conditions<'a>(
     exclusive: bool,
     names: &'a [u8],
 ) -> Result<ParsedSections<'a>, SpecFault>
-    ensures { Gives sections_view result (plain.with_start_conditions (sections_view sections.entry) number exclusive (words_of names.now)) }
+    ensures { Gives sections_view result (plain.with_start_conditions (sections_view sections.entry)
+        number exclusive (words_of names.now)) }
 {
     let mut sections = sections;
     let mut rest = names;
@@ -136,7 +139,8 @@ fn with_rule<'a>(
     rule: RawRule<'a>,
     closed: bool,
 ) -> Result<ParsedSections<'a>, SpecFault>
-    ensures { Gives sections_view result (plain.with_rule (sections_view sections.entry) (raw_rule_view rule.entry) closed) }
+    ensures { Gives sections_view result
+        (plain.with_rule (sections_view sections.entry) (raw_rule_view rule.entry) closed) }
 {
     if sections.rules.len() >= MAX_RULES {
         return Err(SpecFault {
@@ -160,7 +164,8 @@ fn take_definition<'a>(
     number: u32,
     line: &'a [u8],
 ) -> Result<(ParsedSections<'a>, Option<Place<'a>>), SpecFault>
-    ensures { TakesLine taken_view (sections_view sections.entry) plain.definitions number line.now result }
+    ensures { TakesLine taken_view (sections_view sections.entry) plain.definitions number line.now
+        result }
 {
     match line_of(line) {
         Line::Skipped => Ok((sections, Some(Place::Definitions))),
@@ -208,7 +213,9 @@ fn first_line<'a>(
     text: &'a [u8],
 ) -> Result<OpenRule<'a>, SpecFault>
     requires { 0 < line }
-    ensures rule { IfOk result (λ begun. raw_rule_view begun.rule ≡ record { line = line; prefix = prefix_view prefix.entry; pattern = pattern.now; action = text.now }) }
+    ensures rule { IfOk result (λ begun.
+        raw_rule_view begun.rule ≡ record
+        { line = line; prefix = prefix_view prefix.entry; pattern = pattern.now; action = text.now }) }
     ensures count { IfOk result (λ begun. begun.count ≡ blocks.with_line blocks.start text.now) }
     ensures err { IfErr result (λ f. f ≡ out_of_memory) }
 {
@@ -234,7 +241,8 @@ fn first_line<'a>(
 
 // Adds one more line to the action of the rule.
 fn next_line<'a>(begun: OpenRule<'a>, line: &[u8]) -> Result<OpenRule<'a>, SpecFault>
-    ensures rule { IfOk result (λ more. raw_rule_view more.rule ≡ plain.longer (raw_rule_view begun.entry.rule) line.now) }
+    ensures rule { IfOk result
+        (λ more. raw_rule_view more.rule ≡ plain.longer (raw_rule_view begun.entry.rule) line.now) }
     ensures count { IfOk result (λ more. more.count ≡ blocks.with_line begun.entry.count line.now) }
     ensures err { IfErr result (λ f. f ≡ out_of_memory) }
 {
@@ -253,7 +261,8 @@ fn take_rule<'a>(
     line: &'a [u8],
 ) -> Result<(ParsedSections<'a>, Option<Place<'a>>), SpecFault>
     requires { 0 < number }
-    ensures { TakesLine taken_view (sections_view sections.entry) plain.rules number line.now result }
+    ensures { TakesLine taken_view (sections_view sections.entry) plain.rules number line.now
+        result }
 {
     match rule_line_of(line) {
         RuleLine::Skipped => Ok((sections, Some(Place::Rules))),
@@ -279,7 +288,8 @@ fn take_line<'a>(
     line: &'a [u8],
 ) -> Result<(ParsedSections<'a>, Option<Place<'a>>), SpecFault>
     requires { 0 < number }
-    ensures { TakesLine taken_view (sections_view sections.entry) (place_view place.entry) number line.now result }
+    ensures { TakesLine taken_view (sections_view sections.entry) (place_view place.entry) number
+        line.now result }
 {
     match place {
         Place::Definitions => take_definition(sections, number, line),
@@ -320,7 +330,8 @@ fn at_end<'a>(
     sections: ParsedSections<'a>,
     place: Place<'a>,
 ) -> Result<ParsedSections<'a>, SpecFault>
-    ensures { (n : ℕ) → Gives sections_view result (plain.sections_behind (sections_view sections.entry) (place_view place.entry) n []) }
+    ensures { (n : ℕ) → Gives sections_view result
+        (plain.sections_behind (sections_view sections.entry) (place_view place.entry) n []) }
 {
     match place {
         Place::Definitions => Err(SpecFault {

@@ -152,7 +152,9 @@ pub(crate) fn read_words<'a>(
     alloc: Global,
     text: &'a [u8],
 ) -> Result<Option<Vec<Word<'a>>>, AllocError>
-    ensures { IfOk result (λ o. MatchOption o ((ws : List plain.Word) → AreWords text.now ws → ⊥) (λ v. AreWords text.now (words_view v.items))) }
+    ensures { IfOk result (λ o.
+        MatchOption o ((ws : List plain.Word) → AreWords text.now ws → ⊥)
+        (λ v. AreWords text.now (words_view v.items))) }
 {
     let mut words = Vec::new(alloc);
     let mut rest = text;

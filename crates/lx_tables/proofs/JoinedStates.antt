@@ -130,7 +130,7 @@ row_condition table row q known e =
 pub row_condition_below : (table : Table) (row : ℕ) → row < joined_len table → row / joined_width table / (state_count table.machine + 1) / 2 < length table.machine.starts
 row_condition_below table row h = condition_below table (row / joined_width table) (div_below row (joined_width table) (joined_states table) (omega arith) h)
 
--- ---- the lists while they are made 
+-- ---- the lists while they are made
 --  the entry past the end
 abbrev nothing : Transition
 nothing = record { row = 0; code = 0 }
@@ -167,7 +167,7 @@ entry_push table entries i c x are l e fits = record {
   ];
 }
 
--- ---- the lists when they are made 
+-- ---- the lists when they are made
 --  the column of a byte represents its class, and the last column a newline
 columns_tell : (table : Table) (b : ℕ) → slice_index table.machine.classes b < table.machine.width →
     (class_of_column table (column_of table b) ≡ slice_index table.machine.classes b) × (nat_eq (column_of table b) table.machine.width ≡ nat_eq b 10)

@@ -15,7 +15,7 @@ pub record IsJoinedState (table : Table) (q : JoinedState) : Type 0 where
   pub condition : q.condition < length table.machine.starts
   pub state : (s : ℕ) → q.state ≡ Some s → s < state_count table.machine
 
--- ---- the match that has ended, as a code: 0 for none 
+-- ---- the match that has ended, as a code: 0 for none
 --  a byte that no rule matches
 abbrev pub echoed : Table → ℕ
 echoed table = length table.rules + 1
@@ -52,7 +52,7 @@ abbrev pub ended : Table → Option ℕ → ℕ
 ended table None = echoed table
 ended table (Some s) = rule_ended table (accepted_by table.machine s)
 
--- ---- the condition after it 
+-- ---- the condition after it
 --  after an action
 abbrev pub condition_behind : List Step → ℕ → ℕ
 condition_behind [] condition = condition
@@ -65,7 +65,7 @@ abbrev pub condition_behind_rule : Table → Option ℕ → ℕ → ℕ
 condition_behind_rule table None condition = condition
 condition_behind_rule table (Some rule) condition = condition_behind (rule_at table rule).steps condition
 
--- ---- steps 
+-- ---- steps
 --  after the first byte of a match: under a condition, at line begin or not, by a byte of this class, which is a newline or not
 abbrev pub begun : Table → ℕ → Bool → ℕ → Bool → JoinedState
 begun table condition begin class newline =
@@ -86,7 +86,7 @@ stepped table q class newline None =
 abbrev pub joined_step : Table → JoinedState → ℕ → Bool → ℕ × JoinedState
 joined_step table q class newline = stepped table q class newline (target_from table.machine q.state class)
 
--- ---- the same in numbers 
+-- ---- the same in numbers
 --  a row has an entry for each class, and one more for the newline alone
 abbrev pub joined_width : Table → ℕ
 joined_width table = table.machine.width + 1

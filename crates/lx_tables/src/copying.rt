@@ -23,7 +23,8 @@ pub(crate) fn kinds_of(alloc: Global, spec: &Spec) -> Result<Vec<Vec<u8>>, Alloc
 
 /// Copies the line ends and the steps of the rules.
 pub(crate) fn rules_of(alloc: Global, spec: &Spec) -> Result<Vec<TableRule>, AllocError>
-    ensures { IfOk result (λ rules. rules_view rules.items ≡ map table_rule (spec_view spec.now).rules) }
+    ensures { IfOk result
+        (λ rules. rules_view rules.items ≡ map table_rule (spec_view spec.now).rules) }
 {
     let mut rules = Vec::new(alloc);
     for rule in &spec.rules {

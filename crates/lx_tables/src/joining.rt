@@ -98,7 +98,8 @@ fn ending_in(tables: &Tables, q: JoinedState) -> Ending
     requires table { IsTable tables.now }
     requires known { IsJoinedState tables.now q }
     ensures code { result.code ≡ ended tables.now q.state }
-    ensures condition { result.condition ≡ condition_behind_rule tables.now (accepted_at tables.now.machine q.state) q.condition }
+    ensures condition { result.condition
+        ≡ condition_behind_rule tables.now (accepted_at tables.now.machine q.state) q.condition }
 {
     let condition = q.condition;
     let Some(state) = q.state else {
@@ -164,7 +165,8 @@ fn step(
     requires known { IsJoinedState tables.now q }
     requires class { class < tables.now.machine.width }
     requires code { ending.code ≡ ended tables.now q.state }
-    requires condition { ending.condition ≡ condition_behind_rule tables.now (accepted_at tables.now.machine q.state) q.condition }
+    requires condition { ending.condition
+        ≡ condition_behind_rule tables.now (accepted_at tables.now.machine q.state) q.condition }
     ensures step { result ≡ joined_step tables.now q class newline }
     ensures known { IsJoinedState tables.now result.1 }
 {
@@ -189,8 +191,11 @@ fn entry(tables: &Tables, q: JoinedState, ending: Ending, column: u16) -> Transi
     requires known { IsJoinedState tables.now q }
     requires column { column < joined_width tables.now }
     requires code { ending.code ≡ ended tables.now q.state }
-    requires condition { ending.condition ≡ condition_behind_rule tables.now (accepted_at tables.now.machine q.state) q.condition }
-    ensures entry { result ≡ joined_entry tables.now (joined_step tables.now q (class_of_column tables.now column) (nat_eq column tables.now.machine.width)) }
+    requires condition { ending.condition
+        ≡ condition_behind_rule tables.now (accepted_at tables.now.machine q.state) q.condition }
+    ensures entry { result
+        ≡ joined_entry tables.now (joined_step tables.now q (class_of_column tables.now column)
+        (nat_eq column tables.now.machine.width)) }
     ensures row { result.row + joined_width tables.now ≤ joined_len tables.now }
 {
     let newline = column == tables.classes();
@@ -212,7 +217,8 @@ fn add_row(tables: &Tables, number: usize, entries: &mut Vec<Transition>) -> Res
     requires room { joined_len tables.now ≤ max_joined_entries }
     requires number { number < joined_states tables.now }
     requires entries { AreEntries tables.now entries.old.items (number * joined_width tables.now) }
-    ensures { OnOk result (AreEntries tables.now entries.new.items ((number + 1) * joined_width tables.now)) }
+    ensures { OnOk result
+        (AreEntries tables.now entries.new.items ((number + 1) * joined_width tables.now)) }
 {
     let q = state_at(tables, number);
     let ending = ending_in(tables, q);
@@ -240,7 +246,8 @@ fn entries_of(alloc: Global, tables: &Tables, states: usize) -> Result<Vec<Trans
 fn columns_of(alloc: Global, tables: &Tables) -> Result<Vec<u8>, AllocError>
     requires { tables.now.machine.width < 256 }
     ensures bytes { IfOk result (λ columns. length columns.items ≡ 256) }
-    ensures columns { IfOk result (λ columns. (b : ℕ) → b < 256 → slice_index columns.items b ≡ column_of tables.now b) }
+    ensures columns { IfOk result
+        (λ columns. (b : ℕ) → b < 256 → slice_index columns.items b ≡ column_of tables.now b) }
 {
     let mut columns = Vec::new(alloc);
     for byte in 0..256u16 {
@@ -269,7 +276,9 @@ fn labels_of(alloc: Global, tables: &Tables) -> Result<Vec<u64>, AllocError>
 
 // Makes the joined table, unless it is too large.
 fn joined_of(alloc: Global, tables: &Tables) -> Result<Option<Joined>, AllocError>
-    ensures { IfOk result (λ joined. ForSome joined (λ j. IsJoined tables.now j.columns.items j.entries.items j.labels.items)) }
+    ensures { IfOk result (λ joined.
+        ForSome joined
+        (λ j. IsJoined tables.now j.columns.items j.entries.items j.labels.items)) }
 {
     let width = usize::from(tables.classes());
     let states = usize::from(tables.conditions()) * 2 * (tables.states() as usize + 1);
@@ -322,7 +331,8 @@ impl Tables {
     /// Returns the condition of the state whose row begins at this entry.
     pub fn condition_of_row(&self, row: usize) -> u16
         requires { row < joined_len self.now }
-        ensures { (q : JoinedState) → IsJoinedState self.now q → row ≡ joined_number self.now q * joined_width self.now → result ≡ q.condition }
+        ensures { (q : JoinedState) → IsJoinedState self.now q
+            → row ≡ joined_number self.now q * joined_width self.now → result ≡ q.condition }
     {
         let number = row / (usize::from(self.classes()) + 1);
         (number / (self.states() as usize + 1) / 2) as u16

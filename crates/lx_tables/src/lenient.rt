@@ -21,7 +21,8 @@ use std::alloc::{AllocError, Global};
 
 /// Reads a count of conditions and their starts.
 fn starts(alloc: Global, text: &[u8]) -> Result<(Vec<(u32, u32)>, &[u8]), AllocError>
-    ensures { IfOk result (λ r. (r.0.items, r.1.now) ≡ read_list max_start_conditions 11 read_start text.now) }
+    ensures { IfOk result
+        (λ r. (r.0.items, r.1.now) ≡ read_list max_start_conditions 11 read_start text.now) }
 {
     let (many, first) = count(text, 11, MAX_START_CONDITIONS as u32);
     let mut starts = Vec::new(alloc);
@@ -36,7 +37,8 @@ fn starts(alloc: Global, text: &[u8]) -> Result<(Vec<(u32, u32)>, &[u8]), AllocE
 
 /// Reads a count of kinds and their names.
 fn kinds(alloc: Global, text: &[u8]) -> Result<(Vec<Vec<u8>>, &[u8]), AllocError>
-    ensures { IfOk result (λ r. (names_view r.0.items, r.1.now) ≡ read_list max_kinds 6 read_kind text.now) }
+    ensures { IfOk result
+        (λ r. (names_view r.0.items, r.1.now) ≡ read_list max_kinds 6 read_kind text.now) }
 {
     let (many, first) = count(text, 6, MAX_KINDS as u32);
     let mut kinds = Vec::new(alloc);
@@ -77,7 +79,8 @@ fn rule(alloc: Global, text: &[u8]) -> Result<(TableRule, &[u8]), AllocError>
 
 /// Reads a count of rules and their lines.
 fn rules(alloc: Global, text: &[u8]) -> Result<(Vec<TableRule>, &[u8]), AllocError>
-    ensures { IfOk result (λ r. (rules_view r.0.items, r.1.now) ≡ read_list max_rules 6 read_rule text.now) }
+    ensures { IfOk result
+        (λ r. (rules_view r.0.items, r.1.now) ≡ read_list max_rules 6 read_rule text.now) }
 {
     let (many, first) = count(text, 6, MAX_RULES as u32);
     let mut rules = Vec::new(alloc);
@@ -113,7 +116,8 @@ fn push_many(
     times: u32,
     encoded_option: u16,
 ) -> Result<(), AllocError>
-    ensures { OnOk result (encoded_options.new.items ≡ encoded_options.old.items ++ replicate times encoded_option) }
+    ensures { OnOk result
+        (encoded_options.new.items ≡ encoded_options.old.items ++ replicate times encoded_option) }
 {
     for _ in 0..times {
         encoded_options.push(encoded_option)?;
@@ -128,7 +132,10 @@ fn row<'a>(
     width: u32,
     encoded_options: &mut Vec<u16>,
 ) -> Result<&'a [u8], AllocError>
-    ensures { IfOk result (λ rest. (map decoded_option encoded_options.new.items, rest.now) ≡ onto (map decoded_option encoded_options.old.items) (read_row version width width 0 text.now)) }
+    ensures { IfOk result (λ rest.
+        (map decoded_option encoded_options.new.items, rest.now)
+        ≡ onto (map decoded_option encoded_options.old.items)
+        (read_row version width width 0 text.now)) }
 {
     let mut from = 0;
     let mut rest = text;
@@ -155,7 +162,10 @@ fn state<'a>(
     accepted: &mut Vec<u16>,
     targets: &mut Vec<u16>,
 ) -> Result<&'a [u8], AllocError>
-    ensures { IfOk result (λ rest. (map decoded_option accepted.new.items, map decoded_option targets.new.items, rest.now) ≡ state_onto (map decoded_option accepted.old.items) (map decoded_option targets.old.items) (read_state version width text.now)) }
+    ensures { IfOk result (λ rest.
+        (map decoded_option accepted.new.items, map decoded_option targets.new.items, rest.now)
+        ≡ state_onto (map decoded_option accepted.old.items)
+        (map decoded_option targets.old.items) (read_state version width text.now)) }
 {
     let (encoded_option, rest) = accepts(behind(text, 6));
     accepted.push(encoded_option)?;
@@ -170,7 +180,9 @@ fn states(
     version: Version,
     width: u32,
 ) -> Result<(Vec<u16>, Vec<u16>), AllocError>
-    ensures { IfOk result (λ r. (map decoded_option r.0.items, map decoded_option r.1.items) ≡ read_states version width text.now) }
+    ensures { IfOk result (λ r.
+        (map decoded_option r.0.items, map decoded_option r.1.items)
+        ≡ read_states version width text.now) }
 {
     let (many, first) = count(text, 7, (text.len() / 8).min(MAX_STATES) as u32);
     let mut accepted = Vec::new(alloc);
@@ -195,7 +207,8 @@ fn class_of_encoded_option(encoded_option: u16) -> u8
 
 /// Returns the classes of encoded options.
 fn classes_of_encoded_options(alloc: Global, encoded_options: &[u16]) -> Result<Vec<u8>, AllocError>
-    ensures { IfOk result (λ classes. classes.items ≡ map class_of (map decoded_option encoded_options.now)) }
+    ensures { IfOk result
+        (λ classes. classes.items ≡ map class_of (map decoded_option encoded_options.now)) }
 {
     let mut classes = Vec::new(alloc);
     for encoded_option in encoded_options {

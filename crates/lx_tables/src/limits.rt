@@ -34,7 +34,8 @@ pub(crate) const MAX_STATES: usize = 16_512;
 // Returns true if the lists have the right lengths. Lists that were read leniently have them, except for the conditions. The test is cheaper than a
 // proof.
 fn have_lengths(raw: &RawTables) -> bool
-    ensures { result ≡ limits.have_lengths raw.now.starts.items raw.now.classes.items raw.now.width raw.now.accepted.items raw.now.targets.items }
+    ensures { result ≡ limits.have_lengths raw.now.starts.items raw.now.classes.items raw.now.width
+        raw.now.accepted.items raw.now.targets.items }
 {
     !raw.starts.is_empty()
         && raw.starts.len() <= MAX_START_CONDITIONS
@@ -58,7 +59,8 @@ fn are_classes(classes: &[u8], width: usize) -> bool
 
 /// Returns true if each encoded option is 0, or one more than a number below `numbers`.
 fn are_encoded_options(encoded_options: &[u16], numbers: usize) -> bool
-    ensures { result ≡ list_all (λ encoded_option. nat_le encoded_option numbers) encoded_options.now }
+    ensures { result
+        ≡ list_all (λ encoded_option. nat_le encoded_option numbers) encoded_options.now }
 {
     encoded_options
         .iter()
@@ -66,7 +68,8 @@ fn are_encoded_options(encoded_options: &[u16], numbers: usize) -> bool
 }
 
 fn are_in_range(raw: &RawTables) -> bool
-    ensures { result ≡ limits.are_in_range (length raw.now.rules.items) raw.now.starts.items raw.now.classes.items raw.now.width raw.now.accepted.items raw.now.targets.items }
+    ensures { result ≡ limits.are_in_range (length raw.now.rules.items) raw.now.starts.items
+        raw.now.classes.items raw.now.width raw.now.accepted.items raw.now.targets.items }
 {
     let states = raw.accepted.len();
     are_starts(&raw.starts, states)
@@ -111,7 +114,8 @@ fn are_steps(conditions: usize, kinds: usize, steps: &[Step]) -> bool
 }
 
 fn are_rules(conditions: usize, kinds: usize, rules: &[TableRule]) -> bool
-    ensures { result ≡ list_all (λ rule. invariant.are_steps conditions kinds rule.steps) rules.now }
+    ensures { result
+        ≡ list_all (λ rule. invariant.are_steps conditions kinds rule.steps) rules.now }
 {
     rules
         .iter()

@@ -22,8 +22,10 @@ pub(crate) fn write_start<W: Write>(
     elsewhere: u32,
     at_begin: u32,
 ) -> Result<(), io::Error>
-    ensures ok { OnOk result (Wrote (W.contents out.old) (W.contents out.new) (start_line (elsewhere, at_begin))) }
-    ensures err { OnErr result (WrotePrefix (W.contents out.old) (W.contents out.new) (start_line (elsewhere, at_begin))) }
+    ensures ok { OnOk result
+        (Wrote (W.contents out.old) (W.contents out.new) (start_line (elsewhere, at_begin))) }
+    ensures err { OnErr result
+        (WrotePrefix (W.contents out.old) (W.contents out.new) (start_line (elsewhere, at_begin))) }
 {
     let mut first = Buffer::new();
     let mut second = Buffer::new();
@@ -40,15 +42,18 @@ pub(crate) fn write_start<W: Write>(
 }
 
 pub(crate) fn write_kind<W: Write>(out: &mut W, name: &[u8]) -> Result<(), io::Error>
-    ensures ok { OnOk result (Wrote (W.contents out.old) (W.contents out.new) (kind_line name.now)) }
-    ensures err { OnErr result (WrotePrefix (W.contents out.old) (W.contents out.new) (kind_line name.now)) }
+    ensures ok { OnOk result
+        (Wrote (W.contents out.old) (W.contents out.new) (kind_line name.now)) }
+    ensures err { OnErr result
+        (WrotePrefix (W.contents out.old) (W.contents out.new) (kind_line name.now)) }
 {
     write_parts(out, &[b"kind ", name, b"\n"])
 }
 
 fn write_step<W: Write>(out: &mut W, step: Step) -> Result<(), io::Error>
     ensures ok { OnOk result (Wrote (W.contents out.old) (W.contents out.new) (step_text step)) }
-    ensures err { OnErr result (WrotePrefix (W.contents out.old) (W.contents out.new) (step_text step)) }
+    ensures err { OnErr result
+        (WrotePrefix (W.contents out.old) (W.contents out.new) (step_text step)) }
 {
     match step {
         Step::Echo => write_bytes(out, b" e"),
@@ -59,8 +64,10 @@ fn write_step<W: Write>(out: &mut W, step: Step) -> Result<(), io::Error>
 }
 
 fn write_steps<W: Write>(out: &mut W, steps: &[Step]) -> Result<(), io::Error>
-    ensures ok { OnOk result (Wrote (W.contents out.old) (W.contents out.new) (flat_map step_text steps.now)) }
-    ensures err { OnErr result (WrotePrefix (W.contents out.old) (W.contents out.new) (flat_map step_text steps.now)) }
+    ensures ok { OnOk result
+        (Wrote (W.contents out.old) (W.contents out.new) (flat_map step_text steps.now)) }
+    ensures err { OnErr result
+        (WrotePrefix (W.contents out.old) (W.contents out.new) (flat_map step_text steps.now)) }
 {
     for step in steps {
         write_step(out, *step)?;
@@ -69,8 +76,10 @@ fn write_steps<W: Write>(out: &mut W, steps: &[Step]) -> Result<(), io::Error>
 }
 
 fn write_line_end<W: Write>(out: &mut W, line_end: bool) -> Result<(), io::Error>
-    ensures ok { OnOk result (Wrote (W.contents out.old) (W.contents out.new) (codes "rule " ++ line_end_text line_end)) }
-    ensures err { OnErr result (WrotePrefix (W.contents out.old) (W.contents out.new) (codes "rule " ++ line_end_text line_end)) }
+    ensures ok { OnOk result (Wrote (W.contents out.old) (W.contents out.new)
+        (codes "rule " ++ line_end_text line_end)) }
+    ensures err { OnErr result (WrotePrefix (W.contents out.old) (W.contents out.new)
+        (codes "rule " ++ line_end_text line_end)) }
 {
     if line_end {
         write_bytes(out, b"rule 1")
@@ -85,8 +94,10 @@ pub(crate) fn write_rule<W: Write>(
     line_end: bool,
     steps: &[Step],
 ) -> Result<(), io::Error>
-    ensures ok { OnOk result (Wrote (W.contents out.old) (W.contents out.new) (codes "rule " ++ line_end_text line_end ++ flat_map step_text steps.now ++ codes "\n")) }
-    ensures err { OnErr result (WrotePrefix (W.contents out.old) (W.contents out.new) (codes "rule " ++ line_end_text line_end ++ flat_map step_text steps.now ++ codes "\n")) }
+    ensures ok { OnOk result (Wrote (W.contents out.old) (W.contents out.new) (codes "rule "
+        ++ line_end_text line_end ++ flat_map step_text steps.now ++ codes "\n")) }
+    ensures err { OnErr result (WrotePrefix (W.contents out.old) (W.contents out.new) (codes "rule "
+        ++ line_end_text line_end ++ flat_map step_text steps.now ++ codes "\n")) }
 {
     write_line_end(out, line_end)?;
     write_steps(out, steps)?;
@@ -111,8 +122,10 @@ fn write_range<W: Write>(
     high: u32,
     encoded_option: u16,
 ) -> Result<(), io::Error>
-    ensures ok { OnOk result (Wrote (W.contents out.old) (W.contents out.new) (range_text low high (decoded_option encoded_option))) }
-    ensures err { OnErr result (WrotePrefix (W.contents out.old) (W.contents out.new) (range_text low high (decoded_option encoded_option))) }
+    ensures ok { OnOk result (Wrote (W.contents out.old) (W.contents out.new)
+        (range_text low high (decoded_option encoded_option))) }
+    ensures err { OnErr result (WrotePrefix (W.contents out.old) (W.contents out.new)
+        (range_text low high (decoded_option encoded_option))) }
 {
     if encoded_option == 0 {
         return Ok(());
@@ -136,8 +149,10 @@ fn write_range<W: Write>(
 /// Writes the longest ranges of bytes with equal values.
 fn write_ranges<W: Write>(out: &mut W, tables: &Tables, values: ByteValues) -> Result<(), io::Error>
     requires { HasState tables.now.machine values }
-    ensures ok { OnOk result (Wrote (W.contents out.old) (W.contents out.new) (byte_ranges (value_of tables.now.machine values))) }
-    ensures err { OnErr result (WrotePrefix (W.contents out.old) (W.contents out.new) (byte_ranges (value_of tables.now.machine values))) }
+    ensures ok { OnOk result (Wrote (W.contents out.old) (W.contents out.new)
+        (byte_ranges (value_of tables.now.machine values))) }
+    ensures err { OnErr result (WrotePrefix (W.contents out.old) (W.contents out.new)
+        (byte_ranges (value_of tables.now.machine values))) }
 {
     let mut low: u32 = 0;
     let mut value = encoded_value(tables, values, 0);
@@ -172,7 +187,8 @@ fn place_entry(row: &mut [u8], end: usize, class: u16, encoded_option: u16) -> u
     requires room { 10 ≤ end }
     requires within { end ≤ length row.old }
     requires class { class < 256 }
-    ensures placed { drop result row.new ≡ entry_text class (decoded_option encoded_option) ++ drop end row.old }
+    ensures placed { drop result row.new
+        ≡ entry_text class (decoded_option encoded_option) ++ drop end row.old }
     ensures short { end ≤ result + 10 }
     ensures within { result ≤ end }
     ensures long { length row.new ≡ length row.old }
@@ -213,8 +229,10 @@ fn write_entries<W: Write>(
 ) -> Result<(), io::Error>
     requires long { length row.old ≡ 2560 }
     requires state { state < state_count tables.now.machine }
-    ensures ok { OnOk result (Wrote (W.contents out.old) (W.contents out.new) (entries_text tables.now.machine state)) }
-    ensures err { OnErr result (WrotePrefix (W.contents out.old) (W.contents out.new) (entries_text tables.now.machine state)) }
+    ensures ok { OnOk result
+        (Wrote (W.contents out.old) (W.contents out.new) (entries_text tables.now.machine state)) }
+    ensures err { OnErr result (WrotePrefix (W.contents out.old) (W.contents out.new)
+        (entries_text tables.now.machine state)) }
     ensures long { length row.new ≡ length row.old }
 {
     let begin = place_entries(row, tables, state);
@@ -222,8 +240,10 @@ fn write_entries<W: Write>(
 }
 
 fn write_accepts<W: Write>(out: &mut W, rule: Option<u16>) -> Result<(), io::Error>
-    ensures ok { OnOk result (Wrote (W.contents out.old) (W.contents out.new) (codes "state " ++ accepts_text rule)) }
-    ensures err { OnErr result (WrotePrefix (W.contents out.old) (W.contents out.new) (codes "state " ++ accepts_text rule)) }
+    ensures ok { OnOk result
+        (Wrote (W.contents out.old) (W.contents out.new) (codes "state " ++ accepts_text rule)) }
+    ensures err { OnErr result (WrotePrefix (W.contents out.old) (W.contents out.new)
+        (codes "state " ++ accepts_text rule)) }
 {
     match rule {
         None => write_bytes(out, b"state -"),
@@ -241,8 +261,10 @@ fn write_targets<W: Write>(
 ) -> Result<(), io::Error>
     requires long { length row.old ≡ 2560 }
     requires state { state < state_count tables.now.machine }
-    ensures ok { OnOk result (Wrote (W.contents out.old) (W.contents out.new) (targets_text version tables.now.machine state)) }
-    ensures err { OnErr result (WrotePrefix (W.contents out.old) (W.contents out.new) (targets_text version tables.now.machine state)) }
+    ensures ok { OnOk result (Wrote (W.contents out.old) (W.contents out.new)
+        (targets_text version tables.now.machine state)) }
+    ensures err { OnErr result (WrotePrefix (W.contents out.old) (W.contents out.new)
+        (targets_text version tables.now.machine state)) }
     ensures long { length row.new ≡ length row.old }
 {
     match version {
@@ -261,8 +283,10 @@ pub(crate) fn write_state<W: Write>(
 ) -> Result<(), io::Error>
     requires long { length row.old ≡ 2560 }
     requires state { state < state_count tables.now.machine }
-    ensures ok { OnOk result (Wrote (W.contents out.old) (W.contents out.new) (state_line version tables.now.machine state)) }
-    ensures err { OnErr result (WrotePrefix (W.contents out.old) (W.contents out.new) (state_line version tables.now.machine state)) }
+    ensures ok { OnOk result (Wrote (W.contents out.old) (W.contents out.new)
+        (state_line version tables.now.machine state)) }
+    ensures err { OnErr result (WrotePrefix (W.contents out.old) (W.contents out.new)
+        (state_line version tables.now.machine state)) }
     ensures long { length row.new ≡ length row.old }
 {
     write_accepts(out, tables.accepts(State(state)))?;
@@ -272,8 +296,10 @@ pub(crate) fn write_state<W: Write>(
 
 /// Writes the line that has the class of each byte.
 pub(crate) fn write_classes<W: Write>(out: &mut W, tables: &Tables) -> Result<(), io::Error>
-    ensures ok { OnOk result (Wrote (W.contents out.old) (W.contents out.new) (class_line tables.now.machine)) }
-    ensures err { OnErr result (WrotePrefix (W.contents out.old) (W.contents out.new) (class_line tables.now.machine)) }
+    ensures ok { OnOk result
+        (Wrote (W.contents out.old) (W.contents out.new) (class_line tables.now.machine)) }
+    ensures err { OnErr result
+        (WrotePrefix (W.contents out.old) (W.contents out.new) (class_line tables.now.machine)) }
 {
     write_bytes(out, b"class")?;
     write_ranges(out, tables, ByteValues::Classes)?;

@@ -24,8 +24,10 @@ impl Tables {
         requires { IsAutomatonOf (spec_view spec.now) automaton.now }
         ensures tables { IfOk result (λ tables. AreTablesOf (spec_view spec.now) tables) }
         ensures table { IfOk result (λ tables. IsTable tables) }
-        ensures answers { IfOk result (λ tables. AreEquivalentMachines automaton.now tables.machine) }
-        ensures led_to { IfOk result (λ tables. AreAllLedTo automaton.now → AreAllLedTo tables.machine) }
+        ensures answers { IfOk result
+            (λ tables. AreEquivalentMachines automaton.now tables.machine) }
+        ensures led_to { IfOk result
+            (λ tables. AreAllLedTo automaton.now → AreAllLedTo tables.machine) }
     {
         let tables = Tables::unjoined_of(alloc, spec, automaton)?;
         tables.with_joined(alloc)
@@ -40,8 +42,10 @@ impl Tables {
         requires { IsAutomatonOf (spec_view spec.now) automaton.now }
         ensures tables { IfOk result (λ tables. AreTablesOf (spec_view spec.now) tables) }
         ensures table { IfOk result (λ tables. IsTable tables) }
-        ensures answers { IfOk result (λ tables. AreEquivalentMachines automaton.now tables.machine) }
-        ensures led_to { IfOk result (λ tables. AreAllLedTo automaton.now → AreAllLedTo tables.machine) }
+        ensures answers { IfOk result
+            (λ tables. AreEquivalentMachines automaton.now tables.machine) }
+        ensures led_to { IfOk result
+            (λ tables. AreAllLedTo automaton.now → AreAllLedTo tables.machine) }
     {
         specs_are_well_formed();
         let state_order = state_order_of(alloc, automaton)?;

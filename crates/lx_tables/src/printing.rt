@@ -14,8 +14,10 @@ use crate::writing::{write_bytes, write_count};
 use std::io::{self, Write};
 
 fn write_starts<W: Write>(out: &mut W, tables: &Tables) -> Result<(), io::Error>
-    ensures ok { OnOk result (Wrote (W.contents out.old) (W.contents out.new) (flat_map start_line tables.now.machine.starts)) }
-    ensures err { OnErr result (WrotePrefix (W.contents out.old) (W.contents out.new) (flat_map start_line tables.now.machine.starts)) }
+    ensures ok { OnOk result (Wrote (W.contents out.old) (W.contents out.new)
+        (flat_map start_line tables.now.machine.starts)) }
+    ensures err { OnErr result (WrotePrefix (W.contents out.old) (W.contents out.new)
+        (flat_map start_line tables.now.machine.starts)) }
 {
     for condition in 0..tables.conditions() {
         let elsewhere = tables.start(condition, false);
@@ -26,8 +28,10 @@ fn write_starts<W: Write>(out: &mut W, tables: &Tables) -> Result<(), io::Error>
 }
 
 fn write_kinds<W: Write>(out: &mut W, tables: &Tables) -> Result<(), io::Error>
-    ensures ok { OnOk result (Wrote (W.contents out.old) (W.contents out.new) (flat_map kind_line tables.now.kinds)) }
-    ensures err { OnErr result (WrotePrefix (W.contents out.old) (W.contents out.new) (flat_map kind_line tables.now.kinds)) }
+    ensures ok { OnOk result
+        (Wrote (W.contents out.old) (W.contents out.new) (flat_map kind_line tables.now.kinds)) }
+    ensures err { OnErr result (WrotePrefix (W.contents out.old) (W.contents out.new)
+        (flat_map kind_line tables.now.kinds)) }
 {
     for number in 0..tables.kinds() {
         write_kind(out, tables.kind(number))?;
@@ -36,8 +40,10 @@ fn write_kinds<W: Write>(out: &mut W, tables: &Tables) -> Result<(), io::Error>
 }
 
 fn write_rules<W: Write>(out: &mut W, tables: &Tables) -> Result<(), io::Error>
-    ensures ok { OnOk result (Wrote (W.contents out.old) (W.contents out.new) (flat_map rule_line tables.now.rules)) }
-    ensures err { OnErr result (WrotePrefix (W.contents out.old) (W.contents out.new) (flat_map rule_line tables.now.rules)) }
+    ensures ok { OnOk result
+        (Wrote (W.contents out.old) (W.contents out.new) (flat_map rule_line tables.now.rules)) }
+    ensures err { OnErr result (WrotePrefix (W.contents out.old) (W.contents out.new)
+        (flat_map rule_line tables.now.rules)) }
 {
     for rule in 0..tables.rules() {
         write_rule(out, tables.cut(rule), tables.steps(rule))?;
@@ -47,8 +53,10 @@ fn write_rules<W: Write>(out: &mut W, tables: &Tables) -> Result<(), io::Error>
 
 /// Writes the part that both versions have: conditions, kinds and rules.
 fn write_front<W: Write>(out: &mut W, tables: &Tables) -> Result<(), io::Error>
-    ensures ok { OnOk result (Wrote (W.contents out.old) (W.contents out.new) (front_text tables.now)) }
-    ensures err { OnErr result (WrotePrefix (W.contents out.old) (W.contents out.new) (front_text tables.now)) }
+    ensures ok { OnOk result
+        (Wrote (W.contents out.old) (W.contents out.new) (front_text tables.now)) }
+    ensures err { OnErr result
+        (WrotePrefix (W.contents out.old) (W.contents out.new) (front_text tables.now)) }
 {
     write_count(out, b"conditions ", u32::from(tables.conditions()))?;
     write_starts(out, tables)?;
@@ -65,8 +73,12 @@ fn write_state_lines<W: Write>(
     row: &mut [u8],
 ) -> Result<(), io::Error>
     requires { length row.old ≡ 2560 }
-    ensures ok { OnOk result (Wrote (W.contents out.old) (W.contents out.new) (flat_map (λ s. state_line version tables.now.machine s) (range_with_len 0 (state_count tables.now.machine)))) }
-    ensures err { OnErr result (WrotePrefix (W.contents out.old) (W.contents out.new) (flat_map (λ s. state_line version tables.now.machine s) (range_with_len 0 (state_count tables.now.machine)))) }
+    ensures ok { OnOk result (Wrote (W.contents out.old) (W.contents out.new) (flat_map
+        (λ s. state_line version tables.now.machine s)
+        (range_with_len 0 (state_count tables.now.machine)))) }
+    ensures err { OnErr result (WrotePrefix (W.contents out.old) (W.contents out.new) (flat_map
+        (λ s. state_line version tables.now.machine s)
+        (range_with_len 0 (state_count tables.now.machine)))) }
 {
     for state in 0..tables.states() {
         write_state(out, tables, state, version, row)?;
@@ -76,8 +88,10 @@ fn write_state_lines<W: Write>(
 
 /// Writes the states, and the end.
 fn write_states<W: Write>(out: &mut W, tables: &Tables, version: Version) -> Result<(), io::Error>
-    ensures ok { OnOk result (Wrote (W.contents out.old) (W.contents out.new) (states_text (state_line version) tables.now.machine)) }
-    ensures err { OnErr result (WrotePrefix (W.contents out.old) (W.contents out.new) (states_text (state_line version) tables.now.machine)) }
+    ensures ok { OnOk result (Wrote (W.contents out.old) (W.contents out.new)
+        (states_text (state_line version) tables.now.machine)) }
+    ensures err { OnErr result (WrotePrefix (W.contents out.old) (W.contents out.new)
+        (states_text (state_line version) tables.now.machine)) }
 {
     write_count(out, b"states ", tables.states())?;
     let mut row = [0u8; ROW];
@@ -88,8 +102,10 @@ fn write_states<W: Write>(out: &mut W, tables: &Tables, version: Version) -> Res
 impl Tables {
     /// Writes the text of version 2. Allocates nothing. A write of 0 bytes is an error. After an error, a prefix of the text was written.
     pub fn print<W: Write>(&self, out: &mut W) -> Result<(), io::Error>
-        ensures ok { OnOk result (Wrote (W.contents out.old) (W.contents out.new) (text_2 self.now)) }
-        ensures err { OnErr result (WrotePrefix (W.contents out.old) (W.contents out.new) (text_2 self.now)) }
+        ensures ok { OnOk result
+            (Wrote (W.contents out.old) (W.contents out.new) (text_2 self.now)) }
+        ensures err { OnErr result
+            (WrotePrefix (W.contents out.old) (W.contents out.new) (text_2 self.now)) }
     {
         write_bytes(out, b"lx-tables 2\n")?;
         write_front(out, self)?;
@@ -100,8 +116,10 @@ impl Tables {
 
     /// Writes the text of version 1. Allocates nothing. A write of 0 bytes is an error. After an error, a prefix of the text was written.
     pub fn print_first<W: Write>(&self, out: &mut W) -> Result<(), io::Error>
-        ensures ok { OnOk result (Wrote (W.contents out.old) (W.contents out.new) (text_1 self.now)) }
-        ensures err { OnErr result (WrotePrefix (W.contents out.old) (W.contents out.new) (text_1 self.now)) }
+        ensures ok { OnOk result
+            (Wrote (W.contents out.old) (W.contents out.new) (text_1 self.now)) }
+        ensures err { OnErr result
+            (WrotePrefix (W.contents out.old) (W.contents out.new) (text_1 self.now)) }
     {
         write_bytes(out, b"lx-tables 1\n")?;
         write_front(out, self)?;

@@ -30,9 +30,17 @@ pub struct Tables {
 impl Model for Tables {
     ghost Value = { Table };
 
-    ghost view = { λ t. record { machine = t.automaton; kinds = names_view t.kinds.items; rules = rules_view t.rules.items } };
+    ghost view = { λ t.
+        record
+        { machine = t.automaton; kinds = names_view t.kinds.items; rules = rules_view t.rules.items } };
 
-    ghost invariant = { λ t. IsTable (record { machine = t.automaton; kinds = names_view t.kinds.items; rules = rules_view t.rules.items }) × ForSome t.joined (λ j. IsJoined (record { machine = t.automaton; kinds = names_view t.kinds.items; rules = rules_view t.rules.items }) j.columns.items j.entries.items j.labels.items) };
+    ghost invariant = { λ t.
+        IsTable (record
+        { machine = t.automaton; kinds = names_view t.kinds.items; rules = rules_view t.rules.items })
+        × ForSome t.joined (λ j.
+        IsJoined (record
+        { machine = t.automaton; kinds = names_view t.kinds.items; rules = rules_view t.rules.items })
+        j.columns.items j.entries.items j.labels.items) };
 }
 
 impl Tables {
@@ -42,8 +50,10 @@ impl Tables {
         kinds: Vec<Vec<u8>>,
         rules: Vec<TableRule>,
     ) -> Tables
-        requires { IsTable (record { machine = automaton; kinds = names_view kinds.items; rules = rules_view rules.items }) }
-        ensures parts { result ≡ record { machine = automaton; kinds = names_view kinds.items; rules = rules_view rules.items } }
+        requires { IsTable (record
+            { machine = automaton; kinds = names_view kinds.items; rules = rules_view rules.items }) }
+        ensures parts { result ≡ record
+            { machine = automaton; kinds = names_view kinds.items; rules = rules_view rules.items } }
         ensures table { IsTable result }
     {
         Tables {
@@ -96,7 +106,8 @@ impl Tables {
     pub fn class_step(&self, state: State, class: u8) -> Option<State>
         requires state { state.0 < state_count self.now.machine }
         requires class { class < self.now.machine.width }
-        ensures target { option_map (λ s. s.0) result ≡ class_target self.now.machine state.0 class }
+        ensures target { option_map (λ s. s.0) result
+            ≡ class_target self.now.machine state.0 class }
         ensures state { IfSome result (λ s. s.0 < state_count self.now.machine) }
     {
         self.automaton.class_step(state, class)
@@ -181,7 +192,8 @@ impl Tables {
 
     /// Returns the joined table of the same automaton and rules, if there is one.
     pub fn joined(&self) -> Option<&Joined>
-        ensures joined { IfSome result (λ j. IsJoined self.now j.now.columns.items j.now.entries.items j.now.labels.items) }
+        ensures joined { IfSome result
+            (λ j. IsJoined self.now j.now.columns.items j.now.entries.items j.now.labels.items) }
         ensures table { IsTable self.now }
     {
         self.joined.as_ref()

@@ -26,8 +26,10 @@ pub(crate) fn write_bytes<W: Write>(out: &mut W, bytes: &[u8]) -> Result<(), io:
 
 /// Writes parts, one after the other.
 pub(crate) fn write_parts<W: Write>(out: &mut W, parts: &[&[u8]]) -> Result<(), io::Error>
-    ensures ok { OnOk result (Wrote (W.contents out.old) (W.contents out.new) (flat_map (λ part. part.now) parts.now)) }
-    ensures err { OnErr result (WrotePrefix (W.contents out.old) (W.contents out.new) (flat_map (λ part. part.now) parts.now)) }
+    ensures ok { OnOk result
+        (Wrote (W.contents out.old) (W.contents out.new) (flat_map (λ part. part.now) parts.now)) }
+    ensures err { OnErr result (WrotePrefix (W.contents out.old) (W.contents out.new)
+        (flat_map (λ part. part.now) parts.now)) }
 {
     for part in parts {
         write_bytes(out, part)?;
@@ -37,8 +39,10 @@ pub(crate) fn write_parts<W: Write>(out: &mut W, parts: &[&[u8]]) -> Result<(), 
 
 /// Writes a word and a number.
 pub(crate) fn write_numbered<W: Write>(out: &mut W, word: &[u8], n: u32) -> Result<(), io::Error>
-    ensures ok { OnOk result (Wrote (W.contents out.old) (W.contents out.new) (word.now ++ number n)) }
-    ensures err { OnErr result (WrotePrefix (W.contents out.old) (W.contents out.new) (word.now ++ number n)) }
+    ensures ok { OnOk result
+        (Wrote (W.contents out.old) (W.contents out.new) (word.now ++ number n)) }
+    ensures err { OnErr result
+        (WrotePrefix (W.contents out.old) (W.contents out.new) (word.now ++ number n)) }
 {
     let mut digits = Buffer::new();
     write_parts(out, &[word, digits.format(n).as_bytes()])
@@ -46,8 +50,10 @@ pub(crate) fn write_numbered<W: Write>(out: &mut W, word: &[u8], n: u32) -> Resu
 
 /// Writes a line of a word and a number.
 pub(crate) fn write_count<W: Write>(out: &mut W, word: &[u8], n: u32) -> Result<(), io::Error>
-    ensures ok { OnOk result (Wrote (W.contents out.old) (W.contents out.new) (count_line word.now n)) }
-    ensures err { OnErr result (WrotePrefix (W.contents out.old) (W.contents out.new) (count_line word.now n)) }
+    ensures ok { OnOk result
+        (Wrote (W.contents out.old) (W.contents out.new) (count_line word.now n)) }
+    ensures err { OnErr result
+        (WrotePrefix (W.contents out.old) (W.contents out.new) (count_line word.now n)) }
 {
     let mut digits = Buffer::new();
     write_parts(out, &[word, digits.format(n).as_bytes(), b"\n"])

@@ -129,9 +129,11 @@ fn push_listed<'a, S: Sources>(
     text: &'a mut Vec<u8>,
 ) -> Result<(), Failure<'a>>
     requires { vec_len names.old ≤ max_files }
-    ensures ok { OnOk result (AreListNames S.gives (plain_list list.entry) (texts_of names.old.items) sources.old sources.new (texts_of names.new.items)) }
+    ensures ok { OnOk result (AreListNames S.gives (plain_list list.entry)
+        (texts_of names.old.items) sources.old sources.new (texts_of names.new.items)) }
     ensures few { OnOk result (vec_len names.new ≤ max_files) }
-    ensures err { IfErr result (IsListRefused S.gives (plain_list list.entry) (texts_of names.old.items) sources.old) }
+    ensures err { IfErr result
+        (IsListRefused S.gives (plain_list list.entry) (texts_of names.old.items) sources.old) }
 {
     let most = MAX_FILES - names.len();
     *text = read_name_list(alloc, sources, list.name, list.separator, most)?;
@@ -154,7 +156,9 @@ fn names_of<'a, S: Sources>(
     text: &'a mut Vec<u8>,
 ) -> Result<Vec<&'a str>, Failure<'a>>
     requires { length order.now.files.items ≤ max_files }
-    ensures ok { IfOk result (λ names. AreFileNames S.gives (plain_order order.now) sources.old sources.new (texts_of names.items)) }
+    ensures ok { IfOk result (λ names.
+        AreFileNames S.gives (plain_order order.now) sources.old sources.new
+        (texts_of names.items)) }
     ensures few { IfOk result (λ names. vec_len names ≤ max_files) }
     ensures err { IfErr result (AreNamesUnread S.gives (plain_order order.now) sources.old) }
 {
@@ -172,8 +176,10 @@ fn selection_of<'a>(
     only: Option<&'a str>,
     notes: &mut Vec<u8>,
 ) -> Result<Option<Selection>, Failure<'a>>
-    ensures ok { IfOk result (λ selection. IsOnly tables.now (option_map (λ text. text.now) only.entry) selection) }
-    ensures err { IfErr result (IsOnlyRefused tables.now (option_map (λ text. text.now) only.entry)) }
+    ensures ok { IfOk result
+        (λ selection. IsOnly tables.now (option_map (λ text. text.now) only.entry) selection) }
+    ensures err { IfErr result
+        (IsOnlyRefused tables.now (option_map (λ text. text.now) only.entry)) }
 {
     let Some(text) = only else {
         return Ok(None);
@@ -204,7 +210,9 @@ fn names_asked(
     words: &FormWords<'_>,
     names: &[&str],
 ) -> Result<Vec<Vec<u8>>, AllocError>
-    ensures { IfOk result (λ bytes. (if words.now.names then Some (map (λ name. name.items) bytes.items) else None) ≡ (if words.now.names then Some (map name_bytes (texts_of names.now)) else None)) }
+    ensures { IfOk result (λ bytes.
+        (if words.now.names then Some (map (λ name. name.items) bytes.items) else None)
+        ≡ (if words.now.names then Some (map name_bytes (texts_of names.now)) else None)) }
 {
     if words.names {
         bytes_of_names(alloc, names)
@@ -215,7 +223,8 @@ fn names_asked(
 
 // Returns the form that the arguments ask for.
 fn form_of<'f>(words: &FormWords<'_>, names: &'f [Vec<u8>], only: Option<Selection>) -> Form<'f>
-    ensures { form_view result ≡ record { first = words.now.first; names = if words.now.names then Some (map (λ name. name.items) names.now) else None; only = only; text = words.now.text; format = format_by (plain_form words.now).format } }
+    ensures { form_view result ≡ record
+        { first = words.now.first; names = if words.now.names then Some (map (λ name. name.items) names.now) else None; only = only; text = words.now.text; format = format_by (plain_form words.now).format } }
 {
     Form {
         first: words.first,
@@ -241,8 +250,13 @@ pub(crate) fn list_asked<'a, R: Threads + Wait + Sync, S: Sources, O: Write>(
 ) -> Result<Vec<&'a str>, Failure<'a>>
     requires few { length order.now.files.items ≤ max_files }
     requires format { IsKnownFormat (plain_order order.now).form.format }
-    ensures ok { IfOk result (λ cut. AreListedAs S.gives (plain_order order.now) tables sources.old sources.new (O.contents out.old) (O.contents out.new) (texts_of cut.items)) }
-    ensures err { IfErr result (λ failure. status_of failure < 4 → IsListingRefused S.gives (plain_order order.now) tables sources.old failure × HidesNoMemory failure × Keeps (O.contents out.old) (O.contents out.new)) }
+    ensures ok { IfOk result (λ cut.
+        AreListedAs S.gives (plain_order order.now) tables sources.old sources.new
+        (O.contents out.old) (O.contents out.new) (texts_of cut.items)) }
+    ensures err { IfErr result (λ failure.
+        status_of failure < 4
+        → IsListingRefused S.gives (plain_order order.now) tables sources.old failure
+        × HidesNoMemory failure × Keeps (O.contents out.old) (O.contents out.new)) }
 {
     let only = selection_of(alloc, &tables, order.form.only, notes)?;
     let names = names_of(alloc, order, sources, text)?;

@@ -61,7 +61,9 @@ fn with_kind_word(asked: Asked, word: &[u8]) -> Option<Asked>
 
 // Applies one word of `-W`. Returns `None` if it names no warning.
 fn with_word(asked: Asked, word: &str) -> Option<Asked>
-    ensures errors { IfSome result (λ new. new.are_errors ≡ (if asked.are_errors then true else bytes_eq word.now (codes "error"))) }
+    ensures errors { IfSome result (λ new.
+        new.are_errors
+        ≡ (if asked.are_errors then true else bytes_eq word.now (codes "error"))) }
     ensures kinds { IfSome result (λ new. IsAskedBehind word.now asked.kinds new.kinds) }
 {
     if word == "all" {
@@ -80,9 +82,11 @@ fn with_word(asked: Asked, word: &str) -> Option<Asked>
 }
 
 fn warnings_asked<'a>(words: &CheckWords<'a>) -> Result<Asked, Failure<'a>>
-    ensures errors { IfOk result (λ asked. asked.are_errors ≡ has_error (plain_check words.now).warnings) }
+    ensures errors { IfOk result
+        (λ asked. asked.are_errors ≡ has_error (plain_check words.now).warnings) }
     ensures kinds { IfOk result (λ asked. AreKindsAsked (plain_check words.now) asked.kinds) }
-    ensures err { IfErr result (λ failure. (fault : RequestFault) × (failure ≡ Failure.Refused fault) × IsWarningFault fault) }
+    ensures err { IfErr result (λ failure.
+        (fault : RequestFault) × (failure ≡ Failure.Refused fault) × IsWarningFault fault) }
 {
     let mut warnings = Asked {
         kinds: KindSet::usual(),
@@ -123,8 +127,12 @@ fn said_by(
     text: &[u8],
     report: &Report,
 ) -> Result<Said, AllocError>
-    ensures verdict { IfOk result (λ said. words.now.json ≡ false → TellsVerdict words.now.rules.now report.now said.text.items) }
-    ensures warnings { IfOk result (λ said. words.now.json ≡ false → IfAccepted (λ accepted. TellsWarnings words.now.rules.now words.now.quiet (has_kind warnings.kinds) said.warnings said.text.items) report.now) }
+    ensures verdict { IfOk result (λ said.
+        words.now.json ≡ false → TellsVerdict words.now.rules.now report.now said.text.items) }
+    ensures warnings { IfOk result (λ said.
+        words.now.json ≡ false → IfAccepted (λ accepted.
+        TellsWarnings words.now.rules.now words.now.quiet (has_kind warnings.kinds)
+        said.warnings said.text.items) report.now) }
 {
     let style = Style {
         file: words.rules.as_bytes(),
@@ -155,8 +163,10 @@ fn said_of<'a>(
     requires errors { warnings.are_errors ≡ has_error (plain_check words.now).warnings }
     requires kinds { AreKindsAsked (plain_check words.now) warnings.kinds }
     ensures ok { IfOk result (λ _. IsAcceptedText words.now.most text.now) }
-    ensures tells { IfOk result (λ said. words.now.json ≡ false → TellsAccepted (plain_check words.now) said.items) }
-    ensures err { IfErr result (λ failure. (failure ≡ Failure.Memory) ⊎ IsReported (plain_check words.now) text.now failure) }
+    ensures tells { IfOk result
+        (λ said. words.now.json ≡ false → TellsAccepted (plain_check words.now) said.items) }
+    ensures err { IfErr result (λ failure.
+        (failure ≡ Failure.Memory) ⊎ IsReported (plain_check words.now) text.now failure) }
 {
     let report = check(alloc, text, usize::from(words.most))?;
     let said = said_by(alloc, words, warnings, text, &report)?;
@@ -176,8 +186,10 @@ pub(crate) fn check_named<'a, S: Sources, O: Write>(
     sources: &mut S,
     out: &mut O,
 ) -> Result<(), Failure<'a>>
-    ensures ok { OnOk result (HasDone S.gives sources.old sources.new (O.contents out.old) (O.contents out.new) [] (check-asked (plain_check words.now))) }
-    ensures err { IfErr result (HasFailed S.gives (Some (check-asked (plain_check words.now))) sources.old (O.contents out.old) (O.contents out.new)) }
+    ensures ok { OnOk result (HasDone S.gives sources.old sources.new (O.contents out.old)
+        (O.contents out.new) [] (check-asked (plain_check words.now))) }
+    ensures err { IfErr result (HasFailed S.gives (Some (check-asked (plain_check words.now)))
+        sources.old (O.contents out.old) (O.contents out.new)) }
 {
     let warnings = warnings_asked(words)?;
     let text = read_whole(alloc, sources, words.rules)?;

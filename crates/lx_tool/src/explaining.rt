@@ -47,7 +47,8 @@ fn line_of(alloc: Global, said: &str) -> Result<Vec<u8>, AllocError>
 // Returns the explanation of the word. If there is none, suggests the nearest word in `notes`.
 fn said_of<'a>(alloc: Global, word: &str, notes: &mut Vec<u8>) -> Result<Vec<u8>, Failure<'a>>
     ensures ok { IfOk result (λ said. starts_with nat_eq said.items word.now ≡ true) }
-    ensures err { IfErr result (λ failure. (failure ≡ Failure.Unprintable Unexplained) ⊎ (failure ≡ Failure.Memory)) }
+    ensures err { IfErr result
+        (λ failure. (failure ≡ Failure.Unprintable Unexplained) ⊎ (failure ≡ Failure.Memory)) }
 {
     match explain(word) {
         Some(said) => Ok(line_of(alloc, said)?),
@@ -65,8 +66,11 @@ pub(crate) fn explain_named<'a, O: Write>(
     notes: &mut Vec<u8>,
     out: &mut O,
 ) -> Result<(), Failure<'a>>
-    ensures ok { OnOk result (IsExplained (option_map (λ w. w.now) word.entry) (O.contents out.old) (O.contents out.new)) }
-    ensures err { IfErr result (λ failure. status_of failure < 4 → IsUnexplained (option_map (λ w. w.now) word.entry) failure × Keeps (O.contents out.old) (O.contents out.new)) }
+    ensures ok { OnOk result (IsExplained (option_map (λ w. w.now) word.entry) (O.contents out.old)
+        (O.contents out.new)) }
+    ensures err { IfErr result (λ failure.
+        status_of failure < 4 → IsUnexplained (option_map (λ w. w.now) word.entry) failure
+        × Keeps (O.contents out.old) (O.contents out.new)) }
 {
     let text = match word {
         Some(word) => said_of(alloc, word, notes)?,

@@ -31,7 +31,8 @@ fn read_file<'a, S: Sources>(
     sources: &mut S,
     name: &'a str,
 ) -> Result<Input, Failure<'a>>
-    ensures ok { IfOk result (λ input. S.gives sources.old name.now (input_view input) sources.new) }
+    ensures ok { IfOk result
+        (λ input. S.gives sources.old name.now (input_view input) sources.new) }
     ensures bytes { IfOk result (λ input. All (λ b. b < 256) input.bytes.items) }
     ensures err { IfErr result (λ failure. IsUnread (name.now ∷ []) failure) }
 {
@@ -69,7 +70,9 @@ pub(crate) fn read_name_list<'a, S: Sources>(
     separator: u8,
     most: usize,
 ) -> Result<Vec<u8>, Failure<'a>>
-    ensures ok { IfOk result (λ front. GivesFront S.gives sources.old name.now separator most (whole front.items) sources.new) }
+    ensures ok { IfOk result (λ front.
+        GivesFront S.gives sources.old name.now separator most (whole front.items)
+        sources.new) }
     ensures err { IfErr result (λ failure. IsUnread (name.now ∷ []) failure) }
 {
     match sources.read_names(alloc, name, separator, most) {
@@ -91,7 +94,9 @@ fn read_files<'a, S: Sources>(
     sources: &mut S,
     names: &[&'a str],
 ) -> Result<Vec<Input>, Failure<'a>>
-    ensures ok { IfOk result (λ files. AreGiven S.gives sources.old (texts_of names.now) (map input_view files.items) sources.new) }
+    ensures ok { IfOk result (λ files.
+        AreGiven S.gives sources.old (texts_of names.now) (map input_view files.items)
+        sources.new) }
     ensures bytes { IfOk result (λ files. AreBytes (map input_view files.items)) }
     ensures len { IfOk result (λ files. vec_len files ≡ length names.now) }
     ensures err { IfErr result (λ failure. IsUnread (texts_of names.now) failure) }
@@ -110,7 +115,8 @@ fn names_of_cut<'a>(
     files: &[Input],
 ) -> Result<Vec<&'a str>, AllocError>
     requires { length files.now ≡ length names.now }
-    ensures { IfOk result (λ cut. texts_of cut.items ≡ cut_names (texts_of names.now) (map input_view files.now)) }
+    ensures { IfOk result
+        (λ cut. texts_of cut.items ≡ cut_names (texts_of names.now) (map input_view files.now)) }
 {
     let mut cut = Vec::new(alloc);
     for i in 0..files.len() {
@@ -135,7 +141,9 @@ pub(crate) fn read_given<'a, S: Sources>(
     sources: &mut S,
     names: &[&'a str],
 ) -> Result<Given<'a>, Failure<'a>>
-    ensures ok { IfOk result (λ given. AreRead S.gives (texts_of names.now) sources.old sources.new (map input_view given.files.items) (texts_of given.cut.items)) }
+    ensures ok { IfOk result (λ given.
+        AreRead S.gives (texts_of names.now) sources.old sources.new
+        (map input_view given.files.items) (texts_of given.cut.items)) }
     ensures len { IfOk result (λ given. vec_len given.files ≡ length names.now) }
     ensures err { IfErr result (λ failure. IsUnread (texts_of names.now) failure) }
 {
@@ -160,8 +168,12 @@ fn list_given<'a, T: Threads + Wait + Sync, S: Sources, W: Write>(
     requires some_items { 0 < per_piece }
     requires few_items { per_piece ≤ max_items }
     requires few_workers { workers ≤ max_workers }
-    ensures ok { IfOk result (λ cut. ListsGiven S.gives (ListsBy tables) (texts_of names.now) sources.old sources.new (W.contents out.old) (W.contents out.new) (texts_of cut.items)) }
-    ensures err { IfErr result (FailsGiven S.gives (λ _. ⊥) (ListsPrefixBy tables) (texts_of names.now) sources.old sources.new (W.contents out.old) (W.contents out.new)) }
+    ensures ok { IfOk result (λ cut.
+        ListsGiven S.gives (ListsBy tables) (texts_of names.now) sources.old sources.new
+        (W.contents out.old) (W.contents out.new) (texts_of cut.items)) }
+    ensures err { IfErr result (FailsGiven S.gives (λ _. ⊥) (ListsPrefixBy tables)
+        (texts_of names.now) sources.old sources.new (W.contents out.old)
+        (W.contents out.new)) }
 {
     let given = read_given(alloc, sources, names)?;
     if given.files.is_empty() {
@@ -198,8 +210,12 @@ pub fn list_by_specification<'a, T: Threads + Wait + Sync, S: Sources, W: Write>
     requires some_items { 0 < per_piece }
     requires few_items { per_piece ≤ max_items }
     requires few_workers { workers ≤ max_workers }
-    ensures ok { IfOk result (λ cut. ListsGiven S.gives (ListsByRules text.now) (texts_of names.now) sources.old sources.new (W.contents out.old) (W.contents out.new) (texts_of cut.items)) }
-    ensures err { IfErr result (FailsGiven S.gives (HasNoTables text.now) (ListsPrefixByRules text.now) (texts_of names.now) sources.old sources.new (W.contents out.old) (W.contents out.new)) }
+    ensures ok { IfOk result (λ cut.
+        ListsGiven S.gives (ListsByRules text.now) (texts_of names.now) sources.old sources.new
+        (W.contents out.old) (W.contents out.new) (texts_of cut.items)) }
+    ensures err { IfErr result (FailsGiven S.gives (HasNoTables text.now)
+        (ListsPrefixByRules text.now) (texts_of names.now) sources.old sources.new
+        (W.contents out.old) (W.contents out.new)) }
 {
     items_are_by_rules();
     let tables = tables_of_text(alloc, text)?;
@@ -224,8 +240,12 @@ pub fn list_by_tables<'a, T: Threads + Wait + Sync, S: Sources, W: Write>(
     requires some_items { 0 < per_piece }
     requires few_items { per_piece ≤ max_items }
     requires few_workers { workers ≤ max_workers }
-    ensures ok { IfOk result (λ cut. ListsGiven S.gives (ListsByText text.now) (texts_of names.now) sources.old sources.new (W.contents out.old) (W.contents out.new) (texts_of cut.items)) }
-    ensures err { IfErr result (FailsGiven S.gives (IsNoTable text.now) (ListsPrefixByText text.now) (texts_of names.now) sources.old sources.new (W.contents out.old) (W.contents out.new)) }
+    ensures ok { IfOk result (λ cut.
+        ListsGiven S.gives (ListsByText text.now) (texts_of names.now) sources.old sources.new
+        (W.contents out.old) (W.contents out.new) (texts_of cut.items)) }
+    ensures err { IfErr result (FailsGiven S.gives (IsNoTable text.now) (ListsPrefixByText text.now)
+        (texts_of names.now) sources.old sources.new (W.contents out.old)
+        (W.contents out.new)) }
 {
     let tables = read_tables(alloc, text)?;
     list_given(

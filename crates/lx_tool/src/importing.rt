@@ -100,7 +100,8 @@ fn judge_printed<'a>(
     notes: &mut Vec<u8>,
 ) -> Result<(), Failure<'a>>
     ensures ok { OnOk result (HasTables printed.now) }
-    ensures err { IfErr result (λ failure. (failure ≡ Failure.Memory) ⊎ (failure ≡ Failure.Unprintable NotImported)) }
+    ensures err { IfErr result
+        (λ failure. (failure ≡ Failure.Memory) ⊎ (failure ≡ Failure.Unprintable NotImported)) }
 {
     match tables_printed(alloc, printed) {
         Ok(_tables) => Ok(()),
@@ -121,7 +122,8 @@ fn imported_of<'a>(
     notes: &mut Vec<u8>,
 ) -> Result<Imported, Failure<'a>>
     ensures ok { IfOk result (λ imported. IsOfFlex imported.specification.items) }
-    ensures err { IfErr result (λ failure. (failure ≡ Failure.Memory) ⊎ (failure ≡ Failure.Unprintable NotImported)) }
+    ensures err { IfErr result
+        (λ failure. (failure ≡ Failure.Memory) ⊎ (failure ≡ Failure.Unprintable NotImported)) }
 {
     let options = Options {
         lossy: words.lossy,
@@ -148,7 +150,8 @@ fn place_text<'a, T: Targets>(
     text: &[u8],
     targets: &mut T,
 ) -> Result<(), Failure<'a>>
-    ensures ok { OnOk result (IsPlaced T.places (option_map (λ name. name.now) target.entry) text.now targets.old targets.new) }
+    ensures ok { OnOk result (IsPlaced T.places (option_map (λ name. name.now) target.entry)
+        text.now targets.old targets.new) }
     ensures err { IfErr result (IsUnplaced (option_map (λ name. name.now) target.entry)) }
 {
     match target {
@@ -167,10 +170,13 @@ fn write_or_place<'a, T: Targets, O: Write>(
     targets: &mut T,
     out: &mut O,
 ) -> Result<(), Failure<'a>>
-    ensures ok { OnOk result (IsWritten (option_map (λ name. name.now) target.entry) text.now (O.contents out.old) (O.contents out.new)) }
-    ensures placed { OnOk result (IsPlaced T.places (option_map (λ name. name.now) target.entry) text.now targets.old targets.new) }
+    ensures ok { OnOk result (IsWritten (option_map (λ name. name.now) target.entry) text.now
+        (O.contents out.old) (O.contents out.new)) }
+    ensures placed { OnOk result (IsPlaced T.places (option_map (λ name. name.now) target.entry)
+        text.now targets.old targets.new) }
     ensures err { IfErr result (IsUnplaced (option_map (λ name. name.now) target.entry)) }
-    ensures kept { IfErr result (λ failure. status_of failure < 4 → Keeps (O.contents out.old) (O.contents out.new)) }
+    ensures kept { IfErr result
+        (λ failure. status_of failure < 4 → Keeps (O.contents out.old) (O.contents out.new)) }
 {
     match target {
         Some(_) => place_text(target, text, targets),
@@ -187,9 +193,12 @@ pub(crate) fn import_named<'a, S: Sources, T: Targets, O: Write>(
     notes: &mut Vec<u8>,
     out: &mut O,
 ) -> Result<(), Failure<'a>>
-    ensures ok { OnOk result (HasDone S.gives sources.old sources.new (O.contents out.old) (O.contents out.new) [] (imports (plain_import words.now))) }
-    ensures placed { OnOk result (HasPlaced S.gives T.places T.same sources.old targets.old targets.new (Some (imports (plain_import words.now)))) }
-    ensures err { IfErr result (HasFailed S.gives (Some (imports (plain_import words.now))) sources.old (O.contents out.old) (O.contents out.new)) }
+    ensures ok { OnOk result (HasDone S.gives sources.old sources.new (O.contents out.old)
+        (O.contents out.new) [] (imports (plain_import words.now))) }
+    ensures placed { OnOk result (HasPlaced S.gives T.places T.same sources.old targets.old
+        targets.new (Some (imports (plain_import words.now)))) }
+    ensures err { IfErr result (HasFailed S.gives (Some (imports (plain_import words.now)))
+        sources.old (O.contents out.old) (O.contents out.new)) }
 {
     let kinds = scanner_words(words);
     judge_scanner_words(alloc, &kinds)?;

@@ -16,8 +16,10 @@ pub(crate) fn merged_automaton(alloc: Global, spec: &Spec) -> Result<Automaton, 
     ensures automaton { IfOk result (λ a. IsAutomatonOf (spec_view spec.now) a) }
     ensures minimal { IfOk result (λ a. IsMinimal a) }
     ensures live { IfOk result (λ a. HasLiveSteps a) }
-    ensures positions { IfErr result (λ e. e ≡ BuildFault.TooManyPositions → HasTooManyPositions (spec_view spec.now)) }
-    ensures sets { IfErr result (λ e. e ≡ BuildFault.TooManySets → HasTooManySets (spec_view spec.now)) }
+    ensures positions { IfErr result
+        (λ e. e ≡ BuildFault.TooManyPositions → HasTooManyPositions (spec_view spec.now)) }
+    ensures sets { IfErr result
+        (λ e. e ≡ BuildFault.TooManySets → HasTooManySets (spec_view spec.now)) }
 {
     let built = build(alloc, spec)?;
     Ok(merge(alloc, &built)?)

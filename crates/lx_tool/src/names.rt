@@ -70,7 +70,8 @@ pub fn name_bytes(alloc: Global, text: &str) -> Result<Vec<u8>, AllocError>
 
 /// Returns the bytes of the names that texts represent, in order.
 pub(crate) fn bytes_of_names(alloc: Global, texts: &[&str]) -> Result<Vec<Vec<u8>>, AllocError>
-    ensures { IfOk result (λ names. map (λ name. name.items) names.items ≡ map name_bytes (texts_of texts.now)) }
+    ensures { IfOk result
+        (λ names. map (λ name. name.items) names.items ≡ map name_bytes (texts_of texts.now)) }
 {
     let mut names = Vec::new(alloc);
     for text in texts {

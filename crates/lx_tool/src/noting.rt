@@ -98,9 +98,14 @@ pub(crate) fn print_noted<'a, T: Targets, O: Write>(
     notes: &mut Vec<u8>,
     out: &mut O,
 ) -> Result<(), Failure<'a>>
-    ensures ok { OnOk result (WritesTables (plain_c words.now.c) options.now tables.now (plain_print words.now).target (O.contents out.old) (O.contents out.new)) }
-    ensures placed { OnOk result (PlacesTables T.places (plain_c words.now.c) options.now tables.now (plain_print words.now).target targets.old targets.new) }
-    ensures err { IfErr result (λ failure. status_of failure < 4 → FailsPrinting (plain_c words.now.c) options.now tables.now (plain_print words.now).target (O.contents out.old) (O.contents out.new) failure) }
+    ensures ok { OnOk result (WritesTables (plain_c words.now.c) options.now tables.now
+        (plain_print words.now).target (O.contents out.old) (O.contents out.new)) }
+    ensures placed { OnOk result (PlacesTables T.places (plain_c words.now.c) options.now tables.now
+        (plain_print words.now).target targets.old targets.new) }
+    ensures err { IfErr result (λ failure.
+        status_of failure < 4 → FailsPrinting (plain_c words.now.c) options.now tables.now
+        (plain_print words.now).target (O.contents out.old) (O.contents out.new)
+        failure) }
 {
     let ended = print_asked(alloc, words, options, tables, targets, out);
     if let Err(failure) = &ended {

@@ -25,8 +25,10 @@ pub(crate) fn judge_output<'a, T: Targets>(
     output: Option<&'a str>,
     input: &'a str,
 ) -> Result<(), Failure<'a>>
-    ensures ok { OnOk result (IsApart T.same targets.now (option_map (λ name. name.now) output.entry) input.now) }
-    ensures err { IfErr result (IsRefusedFor (λ fault. IsOverwritten fault (option_map (λ name. name.now) output.entry) input.now)) }
+    ensures ok { OnOk result
+        (IsApart T.same targets.now (option_map (λ name. name.now) output.entry) input.now) }
+    ensures err { IfErr result (IsRefusedFor
+        (λ fault. IsOverwritten fault (option_map (λ name. name.now) output.entry) input.now)) }
 {
     let Some(output) = output else {
         return Ok(());

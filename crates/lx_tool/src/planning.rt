@@ -40,8 +40,10 @@ pub fn list_files<T: Threads + Wait + Sync, W: Write>(
     requires some_items { 0 < per_piece }
     requires few_items { per_piece ≤ max_items }
     requires few_workers { workers ≤ max_workers }
-    ensures ok { OnOk result (ListsBy tables (map input_view files.items) (W.contents out.old) (W.contents out.new)) }
-    ensures err { OnErr result (ListsPrefixBy tables (map input_view files.items) (W.contents out.old) (W.contents out.new)) }
+    ensures ok { OnOk result
+        (ListsBy tables (map input_view files.items) (W.contents out.old) (W.contents out.new)) }
+    ensures err { OnErr result (ListsPrefixBy tables (map input_view files.items)
+        (W.contents out.old) (W.contents out.new)) }
 {
     let plan = Plan::new(tables, files, per_piece, RUN);
     list_plan(rt, alloc, &plan, workers, writes, out)
@@ -64,8 +66,10 @@ pub fn list_files_in<T: Threads + Wait + Sync, W: Write>(
     requires some_items { 0 < per_piece }
     requires few_items { per_piece ≤ max_items }
     requires few_workers { workers ≤ max_workers }
-    ensures ok { OnOk result (ListsIn (form_view form.now) tables (map input_view files.items) (W.contents out.old) (W.contents out.new)) }
-    ensures err { OnErr result (ListsPrefixIn (form_view form.now) tables (map input_view files.items) (W.contents out.old) (W.contents out.new)) }
+    ensures ok { OnOk result (ListsIn (form_view form.now) tables (map input_view files.items)
+        (W.contents out.old) (W.contents out.new)) }
+    ensures err { OnErr result (ListsPrefixIn (form_view form.now) tables
+        (map input_view files.items) (W.contents out.old) (W.contents out.new)) }
 {
     let plan = Plan::new(tables, files, per_piece, RUN);
     list_plan_in(rt, alloc, &plan, workers, form, writes, out)

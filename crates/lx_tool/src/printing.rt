@@ -30,7 +30,8 @@ fn is_in_c(words: &CWords<'_>) -> bool
 }
 
 fn bytes_of(alloc: Global, word: Option<&str>) -> Result<Option<Vec<u8>>, AllocError>
-    ensures { IfOk result (λ bytes. option_map (λ b. b.items) bytes ≡ option_map (λ w. w.now) word.entry) }
+    ensures { IfOk result
+        (λ bytes. option_map (λ b. b.items) bytes ≡ option_map (λ w. w.now) word.entry) }
 {
     match word {
         Some(word) => Ok(Some(Vec::from_slice(alloc, word.as_bytes())?)),
@@ -81,7 +82,8 @@ pub(crate) fn judge_scanner_words<'a>(
 
 /// Returns the names of conditions.
 pub(crate) fn names_of(alloc: Global, conditions: &[Condition]) -> Result<Vec<Vec<u8>>, AllocError>
-    ensures { IfOk result (λ names. names_view names.items ≡ map (λ condition. condition.name.items) conditions.now) }
+    ensures { IfOk result
+        (λ names. names_view names.items ≡ map (λ condition. condition.name.items) conditions.now) }
 {
     let mut names = Vec::new(alloc);
     for condition in conditions {
@@ -96,7 +98,9 @@ pub(crate) fn named_options<'a>(
     words: &CWords<'a>,
     spec: &Spec,
 ) -> Result<Options, Failure<'a>>
-    ensures ok { IfOk result (λ options. options ≡ named (options_by (plain_c words.now)) (condition_names (spec_view spec.now))) }
+    ensures ok { IfOk result (λ options.
+        options
+        ≡ named (options_by (plain_c words.now)) (condition_names (spec_view spec.now))) }
     ensures err { IfErr result (AreScannerWordsRefused (plain_c words.now)) }
 {
     let options = options_of(alloc, words)?;
@@ -136,7 +140,9 @@ fn judge_kinds<'a>(
     tables: &Tables,
 ) -> Result<(), Failure<'a>>
     ensures ok { OnOk result (kinds_fault (plain_c words.now) options.now tables.now ≡ None) }
-    ensures err { IfErr result (λ failure. (failure ≡ Failure.Memory) ⊎ AreKindsRefused (plain_c words.now) options.now tables.now failure) }
+    ensures err { IfErr result (λ failure.
+        (failure ≡ Failure.Memory)
+        ⊎ AreKindsRefused (plain_c words.now) options.now tables.now failure) }
 {
     if !is_in_c(words) {
         return Ok(());
@@ -154,8 +160,10 @@ fn write_text<W: Write>(
     tables: &Tables,
     out: &mut W,
 ) -> Result<(), io::Error>
-    ensures ok { OnOk result (Wrote (W.contents out.old) (W.contents out.new) (printed_text (plain_c words.now) options.now tables.now)) }
-    ensures err { OnErr result (WrotePrefix (W.contents out.old) (W.contents out.new) (printed_text (plain_c words.now) options.now tables.now)) }
+    ensures ok { OnOk result (Wrote (W.contents out.old) (W.contents out.new)
+        (printed_text (plain_c words.now) options.now tables.now)) }
+    ensures err { OnErr result (WrotePrefix (W.contents out.old) (W.contents out.new)
+        (printed_text (plain_c words.now) options.now tables.now)) }
 {
     if words.scanner {
         return print_c(out, tables, options);
@@ -175,7 +183,8 @@ fn place_text<'a, T: Targets>(
     target: &str,
     targets: &mut T,
 ) -> Result<(), Failure<'a>>
-    ensures ok { OnOk result (T.places targets.old target.now (printed_text (plain_c words.now) options.now tables.now) targets.new) }
+    ensures ok { OnOk result (T.places targets.old target.now
+        (printed_text (plain_c words.now) options.now tables.now) targets.new) }
     ensures err { IfErr result IsPlacingFault }
 {
     let mut text = Vec::new(alloc);
@@ -196,9 +205,14 @@ pub(crate) fn print_asked<'a, T: Targets, O: Write>(
     targets: &mut T,
     out: &mut O,
 ) -> Result<(), Failure<'a>>
-    ensures ok { OnOk result (WritesTables (plain_c words.now.c) options.now tables.now (plain_print words.now).target (O.contents out.old) (O.contents out.new)) }
-    ensures placed { OnOk result (PlacesTables T.places (plain_c words.now.c) options.now tables.now (plain_print words.now).target targets.old targets.new) }
-    ensures err { IfErr result (λ failure. status_of failure < 4 → FailsPrinting (plain_c words.now.c) options.now tables.now (plain_print words.now).target (O.contents out.old) (O.contents out.new) failure) }
+    ensures ok { OnOk result (WritesTables (plain_c words.now.c) options.now tables.now
+        (plain_print words.now).target (O.contents out.old) (O.contents out.new)) }
+    ensures placed { OnOk result (PlacesTables T.places (plain_c words.now.c) options.now tables.now
+        (plain_print words.now).target targets.old targets.new) }
+    ensures err { IfErr result (λ failure.
+        status_of failure < 4 → FailsPrinting (plain_c words.now.c) options.now tables.now
+        (plain_print words.now).target (O.contents out.old) (O.contents out.new)
+        failure) }
 {
     judge_kinds(alloc, &words.c, options, tables)?;
     match words.target {

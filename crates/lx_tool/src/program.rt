@@ -73,7 +73,8 @@ pub fn run<R: Threads + Wait + Sync, S: Sources, O: Write, E: Write>(
     ensures done { result ≡ 0 →
         IfSome (asked_by (words_of words.now)) (HasDone S.gives sources.old sources.new (O.contents out.old) (O.contents out.new) []) }
     // If they ask for nothing else, they asked for the help or the version.
-    ensures told { result ≡ 0 → asked_by (words_of words.now) ≡ None → AskForHelp (words_of words.now) }
+    ensures told { result ≡ 0 → asked_by (words_of words.now) ≡ None
+        → AskForHelp (words_of words.now) }
     // All was listed and a file was cut short; or the arguments, the specification, the tables or a file were rejected. Then nothing was written but
     // the report of `check`.
     ensures ended { 0 < result → result < 4 →
@@ -114,11 +115,14 @@ pub fn run_with<R: Threads + Wait + Sync, S: Sources, T: Targets, O: Write + Out
     ensures done { result ≡ 0 →
         IfSome (asked_by (words_of words.now)) (HasDone S.gives sources.old sources.new (O.contents out.old) (O.contents out.new) []) }
     // If they ask for nothing else, they asked for the help or the version.
-    ensures told { result ≡ 0 → asked_by (words_of words.now) ≡ None → AskForHelp (words_of words.now) }
+    ensures told { result ≡ 0 → asked_by (words_of words.now) ≡ None
+        → AskForHelp (words_of words.now) }
     // Nothing is still buffered in the program.
     ensures sent { result ≡ 0 → O.sent out.new }
     // The file of `-o` was made.
-    ensures placed { result ≡ 0 → HasPlaced S.gives T.places T.same sources.old targets.old targets.new (asked_by (words_of words.now)) }
+    ensures placed { result ≡ 0
+        → HasPlaced S.gives T.places T.same sources.old targets.old targets.new
+        (asked_by (words_of words.now)) }
     // All was listed and a file was cut short; or the arguments, the specification, the tables or a file were rejected. Then nothing was written but
     // the report of `check`.
     ensures ended { 0 < result → result < 4 →
@@ -268,10 +272,16 @@ fn execute<'a, R: Threads + Wait + Sync, S: Sources, T: Targets, O: Write>(
     writes: LineWrites,
     out: &mut O,
 ) -> Result<Vec<&'a str>, Failure<'a>>
-    ensures ok { IfOk result (λ cut. HasObeyed S.gives sources.old sources.new (O.contents out.old) (O.contents out.new) (texts_of cut.items) (asked_by (words_of words.now))) }
-    ensures told { IfOk result (λ _. asked_by (words_of words.now) ≡ None → AskForHelp (words_of words.now)) }
-    ensures placed { IfOk result (λ _. HasPlaced S.gives T.places T.same sources.old targets.old targets.new (asked_by (words_of words.now))) }
-    ensures err { IfErr result (HasFailed S.gives (asked_by (words_of words.now)) sources.old (O.contents out.old) (O.contents out.new)) }
+    ensures ok { IfOk result (λ cut.
+        HasObeyed S.gives sources.old sources.new (O.contents out.old) (O.contents out.new)
+        (texts_of cut.items) (asked_by (words_of words.now))) }
+    ensures told { IfOk result
+        (λ _. asked_by (words_of words.now) ≡ None → AskForHelp (words_of words.now)) }
+    ensures placed { IfOk result (λ _.
+        HasPlaced S.gives T.places T.same sources.old targets.old targets.new
+        (asked_by (words_of words.now))) }
+    ensures err { IfErr result (HasFailed S.gives (asked_by (words_of words.now)) sources.old
+        (O.contents out.old) (O.contents out.new)) }
 {
     match read_words(alloc, words) {
         Ok(order) => carry_out(rt, alloc, order, sources, targets, list, notes, writes, out),
@@ -296,8 +306,11 @@ fn say<'a, O: Write>(
     ended: Result<Vec<&'a str>, Failure<'a>>,
     out: &mut O,
 ) -> Result<Vec<&'a str>, Failure<'a>>
-    ensures ok { IfOk result (λ cut. (ended.entry ≡ Ok cut) × (O.contents out.new ≡ O.contents out.old)) }
-    ensures err { IfErr result (λ failure. status_of failure < 4 → (ended.entry ≡ Err failure) × WroteReport failure (O.contents out.old) (O.contents out.new)) }
+    ensures ok { IfOk result
+        (λ cut. (ended.entry ≡ Ok cut) × (O.contents out.new ≡ O.contents out.old)) }
+    ensures err { IfErr result (λ failure.
+        status_of failure < 4 → (ended.entry ≡ Err failure)
+        × WroteReport failure (O.contents out.old) (O.contents out.new)) }
 {
     match ended {
         Ok(cut) => Ok(cut),
@@ -341,9 +354,14 @@ fn carry_out<'a, R: Threads + Wait + Sync, S: Sources, T: Targets, O: Write>(
     writes: LineWrites,
     out: &mut O,
 ) -> Result<Vec<&'a str>, Failure<'a>>
-    ensures ok { IfOk result (λ cut. HasObeyed S.gives sources.old sources.new (O.contents out.old) (O.contents out.new) (texts_of cut.items) (asked_as order.entry)) }
-    ensures placed { IfOk result (λ _. HasPlaced S.gives T.places T.same sources.old targets.old targets.new (asked_as order.entry)) }
-    ensures err { IfErr result (HasFailed S.gives (asked_as order.entry) sources.old (O.contents out.old) (O.contents out.new)) }
+    ensures ok { IfOk result (λ cut.
+        HasObeyed S.gives sources.old sources.new (O.contents out.old) (O.contents out.new)
+        (texts_of cut.items) (asked_as order.entry)) }
+    ensures placed { IfOk result (λ _.
+        HasPlaced S.gives T.places T.same sources.old targets.old targets.new
+        (asked_as order.entry)) }
+    ensures err { IfErr result (HasFailed S.gives (asked_as order.entry) sources.old
+        (O.contents out.old) (O.contents out.new)) }
 {
     match order {
         Request::Stored => {
@@ -394,8 +412,11 @@ fn list_stored<'a, R: Threads + Wait + Sync, O: Write>(
     writes: LineWrites,
     out: &mut O,
 ) -> Result<(), Failure<'a>>
-    ensures ok { OnOk result (ListsByRules stored_specification (whole stored_text ∷ []) (O.contents out.old) (O.contents out.new)) }
-    ensures err { IfErr result (λ failure. status_of failure < 4 → HasNoTables stored_specification failure × Keeps (O.contents out.old) (O.contents out.new)) }
+    ensures ok { OnOk result (ListsByRules stored_specification (whole stored_text ∷ [])
+        (O.contents out.old) (O.contents out.new)) }
+    ensures err { IfErr result (λ failure.
+        status_of failure < 4 → HasNoTables stored_specification failure
+        × Keeps (O.contents out.old) (O.contents out.new)) }
 {
     listings_are_by_rules();
     let tables = tables_of_text(alloc, STORED_SPECIFICATION)?;
@@ -424,8 +445,11 @@ fn list_by_rules_of<'a, R: Threads + Wait + Sync, S: Sources, O: Write>(
     writes: LineWrites,
     out: &mut O,
 ) -> Result<Vec<&'a str>, Failure<'a>>
-    ensures ok { IfOk result (λ cut. HasDone S.gives sources.old sources.new (O.contents out.old) (O.contents out.new) (texts_of cut.items) (run-asked (plain_order order.now))) }
-    ensures err { IfErr result (HasFailed S.gives (Some (run-asked (plain_order order.now))) sources.old (O.contents out.old) (O.contents out.new)) }
+    ensures ok { IfOk result (λ cut.
+        HasDone S.gives sources.old sources.new (O.contents out.old) (O.contents out.new)
+        (texts_of cut.items) (run-asked (plain_order order.now))) }
+    ensures err { IfErr result (HasFailed S.gives (Some (run-asked (plain_order order.now)))
+        sources.old (O.contents out.old) (O.contents out.new)) }
 {
     items_are_by_rules();
     judge_words(order)?;
@@ -445,8 +469,11 @@ fn list_by_tables_of<'a, R: Threads + Wait + Sync, S: Sources, O: Write>(
     writes: LineWrites,
     out: &mut O,
 ) -> Result<Vec<&'a str>, Failure<'a>>
-    ensures ok { IfOk result (λ cut. HasDone S.gives sources.old sources.new (O.contents out.old) (O.contents out.new) (texts_of cut.items) (scan-asked (plain_order order.now))) }
-    ensures err { IfErr result (HasFailed S.gives (Some (scan-asked (plain_order order.now))) sources.old (O.contents out.old) (O.contents out.new)) }
+    ensures ok { IfOk result (λ cut.
+        HasDone S.gives sources.old sources.new (O.contents out.old) (O.contents out.new)
+        (texts_of cut.items) (scan-asked (plain_order order.now))) }
+    ensures err { IfErr result (HasFailed S.gives (Some (scan-asked (plain_order order.now)))
+        sources.old (O.contents out.old) (O.contents out.new)) }
 {
     judge_words(order)?;
     let text = read_whole(alloc, sources, order.rules)?;
@@ -463,9 +490,12 @@ fn generate_named<'a, S: Sources, T: Targets, O: Write>(
     notes: &mut Vec<u8>,
     out: &mut O,
 ) -> Result<(), Failure<'a>>
-    ensures ok { OnOk result (HasDone S.gives sources.old sources.new (O.contents out.old) (O.contents out.new) [] (gen-asked (plain_print words.entry))) }
-    ensures placed { OnOk result (HasPlaced S.gives T.places T.same sources.old targets.old targets.new (Some (gen-asked (plain_print words.entry)))) }
-    ensures err { IfErr result (HasFailed S.gives (Some (gen-asked (plain_print words.entry))) sources.old (O.contents out.old) (O.contents out.new)) }
+    ensures ok { OnOk result (HasDone S.gives sources.old sources.new (O.contents out.old)
+        (O.contents out.new) [] (gen-asked (plain_print words.entry))) }
+    ensures placed { OnOk result (HasPlaced S.gives T.places T.same sources.old targets.old
+        targets.new (Some (gen-asked (plain_print words.entry)))) }
+    ensures err { IfErr result (HasFailed S.gives (Some (gen-asked (plain_print words.entry)))
+        sources.old (O.contents out.old) (O.contents out.new)) }
 {
     judge_scanner_words(alloc, &words.c)?;
     judge_output(targets, 'o', words.target, words.rules)?;
@@ -485,9 +515,12 @@ fn upgrade_named<'a, S: Sources, T: Targets, O: Write>(
     notes: &mut Vec<u8>,
     out: &mut O,
 ) -> Result<(), Failure<'a>>
-    ensures ok { OnOk result (HasDone S.gives sources.old sources.new (O.contents out.old) (O.contents out.new) [] (up-asked (plain_print words.entry))) }
-    ensures placed { OnOk result (HasPlaced S.gives T.places T.same sources.old targets.old targets.new (Some (up-asked (plain_print words.entry)))) }
-    ensures err { IfErr result (HasFailed S.gives (Some (up-asked (plain_print words.entry))) sources.old (O.contents out.old) (O.contents out.new)) }
+    ensures ok { OnOk result (HasDone S.gives sources.old sources.new (O.contents out.old)
+        (O.contents out.new) [] (up-asked (plain_print words.entry))) }
+    ensures placed { OnOk result (HasPlaced S.gives T.places T.same sources.old targets.old
+        targets.new (Some (up-asked (plain_print words.entry)))) }
+    ensures err { IfErr result (HasFailed S.gives (Some (up-asked (plain_print words.entry)))
+        sources.old (O.contents out.old) (O.contents out.new)) }
 {
     let options = judge_scanner_words(alloc, &words.c)?;
     judge_output(targets, 'o', words.target, words.rules)?;

@@ -35,7 +35,8 @@ fn read_on<R: Read>(
     bytes: &mut Vec<u8>,
 ) -> Result<Turn, SourceFault>
     requires { 0 < length chunk.old }
-    ensures bytes { OnOk result (ReadsOn (R.remaining reader.old) (R.remaining reader.new) bytes.old.items bytes.new.items) }
+    ensures bytes { OnOk result (ReadsOn (R.remaining reader.old) (R.remaining reader.new)
+        bytes.old.items bytes.new.items) }
     ensures end { IfOk result (λ turn. turn ≡ Turn.End → IsAtEnd (R.remaining reader.new)) }
     ensures memory { IfErr result (λ fault. fault ≡ SourceFault.Memory) }
 {
@@ -56,7 +57,8 @@ fn read_on<R: Read>(
 /// Reads all bytes of a reader to its end. If a read fails, keeps the bytes before it, and the input is cut. It is also cut if 4,294,967,296 reads
 /// aren't enough. Retries an interrupted read. The only error is a failed allocation.
 pub fn read_to_end<R: Read>(alloc: Global, reader: &mut R) -> Result<Input, SourceFault>
-    ensures bytes { IfOk result (λ input. Consumes (R.remaining reader.old) (R.remaining reader.new) input.bytes.items) }
+    ensures bytes { IfOk result
+        (λ input. Consumes (R.remaining reader.old) (R.remaining reader.new) input.bytes.items) }
     ensures end { IfOk result (λ input. input.cut ≡ false → IsAtEnd (R.remaining reader.new)) }
     ensures memory { IfErr result (λ fault. fault ≡ SourceFault.Memory) }
 {
@@ -101,8 +103,11 @@ pub fn read_names<R: Read>(
     separator: u8,
     most: usize,
 ) -> Result<Input, SourceFault>
-    ensures bytes { IfOk result (λ input. Consumes (R.remaining reader.old) (R.remaining reader.new) input.bytes.items) }
-    ensures end { IfOk result (λ input. input.cut ≡ false → IsAtEnd (R.remaining reader.new) ⊎ (most < separators separator input.bytes.items)) }
+    ensures bytes { IfOk result
+        (λ input. Consumes (R.remaining reader.old) (R.remaining reader.new) input.bytes.items) }
+    ensures end { IfOk result (λ input.
+        input.cut ≡ false → IsAtEnd (R.remaining reader.new)
+        ⊎ (most < separators separator input.bytes.items)) }
     ensures memory { IfErr result (λ fault. fault ≡ SourceFault.Memory) }
 {
     let mut bytes = Vec::new(alloc);

@@ -46,7 +46,8 @@ fn shown_of_specification<'a>(
     notes: &mut Vec<u8>,
 ) -> Result<Shown, Failure<'a>>
     requires { begins_as_tables text.now ≡ false }
-    ensures ok { IfOk result (λ shown. AreShown text.now shown.tables (names_view shown.names.items)) }
+    ensures ok { IfOk result
+        (λ shown. AreShown text.now shown.tables (names_view shown.names.items)) }
     ensures err { IfErr result (λ failure. HasNoneShown text.now failure) }
 {
     let spec = specification_named(alloc, name, text, notes)?;
@@ -61,7 +62,8 @@ fn shown_of<'a>(
     text: &[u8],
     notes: &mut Vec<u8>,
 ) -> Result<Shown, Failure<'a>>
-    ensures ok { IfOk result (λ shown. AreShown text.now shown.tables (names_view shown.names.items)) }
+    ensures ok { IfOk result
+        (λ shown. AreShown text.now shown.tables (names_view shown.names.items)) }
     ensures err { IfErr result (λ failure. HasNoneShown text.now failure) }
 {
     if !begins_as_tables(text) {
@@ -91,8 +93,10 @@ pub(crate) fn show_named<'a, S: Sources, O: Write>(
     notes: &mut Vec<u8>,
     out: &mut O,
 ) -> Result<(), Failure<'a>>
-    ensures ok { OnOk result (HasDone S.gives sources.old sources.new (O.contents out.old) (O.contents out.new) [] (show-asked (plain_show words.entry))) }
-    ensures err { IfErr result (HasFailed S.gives (Some (show-asked (plain_show words.entry))) sources.old (O.contents out.old) (O.contents out.new)) }
+    ensures ok { OnOk result (HasDone S.gives sources.old sources.new (O.contents out.old)
+        (O.contents out.new) [] (show-asked (plain_show words.entry))) }
+    ensures err { IfErr result (HasFailed S.gives (Some (show-asked (plain_show words.entry)))
+        sources.old (O.contents out.old) (O.contents out.new)) }
 {
     let text = read_whole(alloc, sources, words.rules)?;
     let shown = shown_of(alloc, words.rules, &text, notes)?;

@@ -57,7 +57,8 @@ pub trait Sources {
         separator: u8,
         most: usize,
     ) -> Result<Input, SourceFault>
-        ensures given { IfOk result (λ input. GivesFront gives self.old name.now separator most (input_view input) self.new) }
+        ensures given { IfOk result (λ input.
+            GivesFront gives self.old name.now separator most (input_view input) self.new) }
         ensures lacks { result ≡ Err SourceFault.NotRead → lacks self.old name.now }
     {
         self.read(alloc, name)
@@ -143,7 +144,8 @@ impl Sources for ListSources<'_> {
     /// Reads the first file with this name. Err: NotRead exactly if there is none.
     fn read(&mut self, alloc: Global, name: &str) -> Result<Input, SourceFault>
         ensures unchanged { self.new ≡ self.old }
-        ensures found { IfOk result (λ input. (self.new ≡ self.old) × IsFirstNamed self.old name.now (input_view input)) }
+        ensures found { IfOk result
+            (λ input. (self.new ≡ self.old) × IsFirstNamed self.old name.now (input_view input)) }
         ensures not_found { NoneIsNamed self.old name.now → result ≡ Err SourceFault.NotRead }
         ensures not_read { result ≡ Err SourceFault.NotRead → NoneIsNamed self.old name.now }
     {

@@ -36,7 +36,8 @@ pub(crate) fn specification_of<'a>(alloc: Global, text: &[u8]) -> Result<Spec, F
 pub(crate) fn tables_of<'a>(alloc: Global, spec: &Spec) -> Result<Tables, Failure<'a>>
     ensures ok { IfOk result (λ tables. AreTablesOf (spec_view spec.now) tables) }
     ensures table { IfOk result (λ tables. IsTable tables) }
-    ensures err { IfErr result (λ failure. (text : List ℕ) → IsRead text (spec_view spec.now) → HasNoTables text failure) }
+    ensures err { IfErr result
+        (λ failure. (text : List ℕ) → IsRead text (spec_view spec.now) → HasNoTables text failure) }
 {
     let automaton = merged_automaton(alloc, spec)?;
     Ok(Tables::of(alloc, spec, &automaton)?)
@@ -45,7 +46,8 @@ pub(crate) fn tables_of<'a>(alloc: Global, spec: &Spec) -> Result<Tables, Failur
 /// Makes the same tables as `tables_of`, for printing only: no text is scanned by them.
 pub(crate) fn unjoined_tables_of<'a>(alloc: Global, spec: &Spec) -> Result<Tables, Failure<'a>>
     ensures ok { IfOk result (λ tables. AreTablesOf (spec_view spec.now) tables) }
-    ensures err { IfErr result (λ failure. (text : List ℕ) → IsRead text (spec_view spec.now) → HasNoTables text failure) }
+    ensures err { IfErr result
+        (λ failure. (text : List ℕ) → IsRead text (spec_view spec.now) → HasNoTables text failure) }
 {
     let automaton = merged_automaton(alloc, spec)?;
     Ok(Tables::unjoined_of(alloc, spec, &automaton)?)

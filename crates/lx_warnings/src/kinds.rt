@@ -141,7 +141,8 @@ impl KindSet {
 
     /// Returns the set with a kind added or removed.
     pub fn with(self, kind: WarningKind, is_in: bool) -> KindSet
-        ensures { (other : WarningKind) → has_kind result other ≡ (if nat_eq (number other) (number kind) then is_in else has_kind self other) }
+        ensures { (other : WarningKind) → has_kind result other
+            ≡ (if nat_eq (number other) (number kind) then is_in else has_kind self other) }
     {
         let mut flags = self.flags;
         flags[number_of(kind)] = is_in;

@@ -146,7 +146,8 @@ fn told_of(
     most: usize,
 ) -> Result<Warnings, AllocError>
     ensures told { IfOk result (λ warnings. All (IsTold text.now) warnings.told.items) }
-    ensures asked { IfOk result (λ warnings. All (λ warning. has_kind asked.now warning.kind ≡ true) warnings.told.items) }
+    ensures asked { IfOk result
+        (λ warnings. All (λ warning. has_kind asked.now warning.kind ≡ true) warnings.told.items) }
     ensures most { IfOk result (λ warnings. length warnings.told.items ≡ min warnings.count most) }
 {
     let mut told = Vec::new(alloc);
@@ -175,7 +176,8 @@ pub fn warnings_of(
     most: usize,
 ) -> Result<Warnings, AllocError>
     ensures told { IfOk result (λ warnings. All (IsTold text.now) warnings.told.items) }
-    ensures asked { IfOk result (λ warnings. All (λ warning. has_kind asked.now warning.kind ≡ true) warnings.told.items) }
+    ensures asked { IfOk result
+        (λ warnings. All (λ warning. has_kind asked.now warning.kind ≡ true) warnings.told.items) }
     ensures most { IfOk result (λ warnings. length warnings.told.items ≡ min warnings.count most) }
 {
     let layout = layout_of(alloc, text)?;
@@ -212,7 +214,8 @@ pub fn warnings_beside(
     most: usize,
 ) -> Result<Warnings, AllocError>
     ensures told { IfOk result (λ warnings. All (IsTold text.now) warnings.told.items) }
-    ensures asked { IfOk result (λ warnings. All (λ warning. has_kind asked.now warning.kind ≡ true) warnings.told.items) }
+    ensures asked { IfOk result
+        (λ warnings. All (λ warning. has_kind asked.now warning.kind ≡ true) warnings.told.items) }
     ensures most { IfOk result (λ warnings. length warnings.told.items ≡ min warnings.count most) }
 {
     let layout = layout_of(alloc, text)?;
