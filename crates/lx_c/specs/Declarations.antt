@@ -18,9 +18,12 @@ include_text (Some file) = codes "#include \"" ++ file ++ codes "\"\n"
 abbrev pub kind_line : Options → ℕ → List ℕ → ℕ → List ℕ
 kind_line o first kind k = codes ",\n    " ++ name_in_c o kind ++ (codes " = " ++ number (first + k))
 
+abbrev pub kind_list : Options → ℕ → Table → List ℕ
+kind_list o first table = flat_map (λ k. kind_line o first (kind_at table k) k) (range_with_len 0 (length table.kinds))
+
 -- all kinds, where no file declares them
 abbrev pub kind_lines : Options → ℕ → Table → List ℕ
-kind_lines o first table = if has_file o.include then [] else flat_map (λ k. kind_line o first (kind_at table k) k) (range_with_len 0 (length table.kinds))
+kind_lines o first table = if has_file o.include then [] else kind_list o first table
 
 -- where the numbers of kinds begin
 abbrev pub first_kind_text : Options → ℕ → List ℕ

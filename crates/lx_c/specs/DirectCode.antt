@@ -219,11 +219,14 @@ case_texts m class = flat_map (case_text m class) (range_with_len 0 256)
 abbrev pub newline_text : Options → Machine → ℕ → List ℕ
 newline_text o m class = if slice_index m.classes 10 == class then filled o.prefix NEWLINE.now else []
 
+abbrev pub step_code : Options → Machine → ℕ → ℕ → ℕ → List ℕ
+step_code o m s class t = case_texts m class ++ newline_text o m class ++ edge_text o m s t
+
 -- the step on a class, if it leads neither to the state itself nor to the main target
 abbrev pub class_code : Options → Machine → ℕ → Option ℕ → ℕ → Option ℕ → List ℕ
 class_code o m s main class None = []
 class_code o m s main class (Some t) =
-    if t == s then [] else if is_it main t then [] else case_texts m class ++ newline_text o m class ++ edge_text o m s t
+    if t == s then [] else if is_it main t then [] else step_code o m s class t
 
 abbrev pub class_codes : Options → Machine → ℕ → Option ℕ → List ℕ
 class_codes o m s main = flat_map (λ class. class_code o m s main class (class_target m s class)) (range_with_len 0 m.width)

@@ -43,9 +43,12 @@ start_lines m = flat_map (start_line m) (range_with_len 0 (length m.starts))
 abbrev pub type_text : ℕ → List ℕ
 type_text most = if nat_lt most 256 then codes "unsigned char" else if nat_lt most 65536 then codes "unsigned short" else codes "unsigned int"
 
--- an array of words of the table, behind its type
+abbrev pub word_array_head : Options → Table → List ℕ → List ℕ
+word_array_head o table head = codes "static const " ++ type_text (greatest_word table) ++ filled o.prefix head
+
+-- an array of words of the table, after its type
 abbrev pub word_array : Options → Table → List ℕ → List ℕ → List ℕ
-word_array o table head entries = codes "static const " ++ type_text (greatest_word table) ++ filled o.prefix head ++ entries ++ codes "0};\n"
+word_array o table head entries = word_array_head o table head ++ entries ++ codes "0};\n"
 
 abbrev pub starts_differ : ℕ × ℕ → Bool
 starts_differ start = not (start.0 == start.1)
