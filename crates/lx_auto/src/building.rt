@@ -15,12 +15,10 @@ use crate::explore::explore;
 use crate::fault::BuildFault;
 use crate::spec_positions::positions_of;
 use lx_automaton::{Automaton, Draft, with_byte_classes};
+use lx_rules::limits::MAX_POSITION_SETS;
 use lx_rules::spec::Spec;
 use lx_rules::well_formed::specs_are_well_formed;
 use std::alloc::Global;
-
-// Greatest number of reached sets.
-const MOST_SETS: usize = 16_384;
 
 // Builds the automaton over provisional classes.
 fn draft(alloc: Global, spec: &Spec) -> Result<Draft, BuildFault>
@@ -37,7 +35,7 @@ fn draft(alloc: Global, spec: &Spec) -> Result<Draft, BuildFault>
 {
     specs_are_well_formed();
     let positions = positions_of(alloc, spec)?;
-    let explored = explore(alloc, spec, &positions, MOST_SETS)?;
+    let explored = explore(alloc, spec, &positions, MAX_POSITION_SETS)?;
     let draft = draft_of(alloc, spec.conditions.len(), &positions.groups, &explored)?;
     Ok(draft)
 }

@@ -11,7 +11,7 @@ use lx_spec::SpecFault;
 use std::alloc::{AllocError, Global};
 
 // Greatest number of bytes that are read in total.
-const MAX_READ_BYTES: usize = 2_000_000;
+pub(crate) const MAX_READ_BYTES: usize = 2_000_000;
 
 // Appends the faults that are found in a text, if there is one. Finds at most `most` faults, and reads at most `left` bytes.
 fn with_further(

@@ -1,9 +1,10 @@
 //! Finds the rules that take the texts of rules that are never chosen.
 
-use crate::without::MAX_SPECIFICATION_BYTES;
+use crate::further::MAX_READ_BYTES;
 use crate::{read, tables_of};
 use bstr::ByteSlice;
 use lx_reach::{Takers, takers_of};
+use lx_rules::limits::MAX_SPECIFICATION_BYTES;
 use lx_spec::Code;
 use lx_spec::parsed_sections::RawRule;
 use lx_spec::rule_line::Prefix;
@@ -11,10 +12,8 @@ use lx_spec::section::read_sections;
 use lx_tables::Tables;
 use std::alloc::{AllocError, Global};
 
-// Limits: the number of rules that are examined, and of bytes that are read in total.
-const MAX_RULES: usize = 20;
-
-const MAX_READ_BYTES: usize = 2_000_000;
+// The most rules for which takers are looked for.
+const MAX_LISTED: usize = 20;
 
 fn push_lines_before(made: &mut Vec<u8>, text: &[u8], line: u32) -> Result<(), AllocError> {
     let mut number: usize = 1;
@@ -80,7 +79,7 @@ fn takers_among(
     let mut left = MAX_READ_BYTES;
     for number in 0..tables.rules() {
         let place = usize::from(number);
-        if place >= rules.len() || place >= chosen.len() || takers.len() >= MAX_RULES {
+        if place >= rules.len() || place >= chosen.len() || takers.len() >= MAX_LISTED {
             break;
         }
         if chosen[place] {

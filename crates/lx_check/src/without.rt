@@ -10,14 +10,12 @@ ghost use Rattle.lx_spec.specs.views.Sections.{raw_rule_view};
 ghost use Rattle.lx_check.specs.Without as specs;
 
 use bstr::ByteSlice;
+use lx_rules::limits::MAX_SPECIFICATION_BYTES;
 use lx_spec::line::next_word;
 use lx_spec::parsed_sections::RawRule;
 use lx_spec::section::read_sections;
 use lx_spec::{Code, SpecFault};
 use std::alloc::{AllocError, Global};
-
-/// Greatest number of bytes of a specification.
-pub const MAX_SPECIFICATION_BYTES: usize = 1_048_576;
 
 // Returns the replacement of a line.
 fn line_instead<'a>(

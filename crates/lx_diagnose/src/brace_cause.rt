@@ -4,9 +4,7 @@ use crate::causes::PatternCause;
 use crate::found::{Found, found_at, found_byte};
 use crate::places::{Span, between};
 use crate::scan::{begins_at, behind_digits, behind_word, is_at, is_digit_at, is_word_at, part};
-
-// Greatest bound of an interval.
-const MAX_BOUND: usize = 255;
+use lx_rules::limits::MAX_BOUND;
 
 // Returns the number that digits spell. For a large number, returns any large one.
 fn number_in(text: &[u8], digits: Span) -> usize {

@@ -3,10 +3,8 @@
 use crate::names::{Visit, names_in, number_of, substitute_of};
 use crate::outline::Outline;
 use crate::places::Span;
+use lx_rules::limits::MAX_NAME_DEPTH;
 use std::alloc::{AllocError, Global};
-
-// Greatest number of names in a chain.
-const MAX_NAME_DEPTH: usize = 32;
 
 // A mention of a definition, with its place.
 #[derive(Clone, Copy)]
@@ -203,7 +201,7 @@ pub(crate) fn depth_from(
         }
     }
     match stage_of(stages, definition) {
-        Stage::Done(names) => Ok(if names > MAX_NAME_DEPTH {
+        Stage::Done(names) => Ok(if names > usize::from(MAX_NAME_DEPTH) {
             Some(Depth::TooLong)
         } else {
             None

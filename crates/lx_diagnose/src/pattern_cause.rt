@@ -9,10 +9,8 @@ use crate::places::Span;
 use crate::prefix_cause::prefix_cause;
 use crate::scan::is_at;
 use crate::sectioning::RuleExtent;
+use lx_ere::read::MAX_PATTERN_BYTES;
 use std::alloc::{AllocError, Global};
-
-// Greatest number of bytes of a pattern or a substitute.
-const MAX_PATTERN_BYTES: usize = 1024;
 
 // Explains why a text is unreadable as a pattern or as a substitute. Looks at no more than the text.
 fn text_cause(

@@ -18,7 +18,7 @@ use crate::prefix::{begins_with, skip};
 use std::alloc::Global;
 
 /// Greatest number of bytes of a pattern or a substitute.
-const MAX_PATTERN_BYTES: usize = 1024;
+pub const MAX_PATTERN_BYTES: usize = 1024;
 
 /// Reads the alternation at the start. Returns it with the text after its last spelling.
 fn read_alternation(alloc: Global, text: &[u8]) -> Result<(Expr, &[u8]), EreFault>

@@ -6,13 +6,8 @@ use crate::cursor::{Cursor, front, is_blank, skip, trimmed};
 use crate::options::read_options;
 use crate::report::{Cause, Reports, Stop, stopped};
 use lx_flex_pattern::Options;
+use lx_rules::limits::{MAX_DEFINITIONS, MAX_START_CONDITIONS};
 use std::alloc::{AllocError, Global};
-
-/// Greatest number of definitions.
-const MAX_DEFINITIONS: usize = 1024;
-
-/// Greatest number of start conditions.
-const MAX_CONDITIONS: usize = 64;
 
 /// A definition, as it is written.
 #[derive(Drop)]
@@ -75,7 +70,7 @@ fn add_condition(
         reports.add(line, Cause::Twice, true)?;
         return Ok(());
     }
-    if declared.conditions.len() >= MAX_CONDITIONS {
+    if declared.conditions.len() >= MAX_START_CONDITIONS {
         return stopped(line, Cause::TooMany);
     }
     let lx_name = new_name(alloc, declared.conditions.as_slice(), name)?;

@@ -14,10 +14,8 @@ use crate::printing::{cases, specification};
 use crate::report::{Cause, Fault, Report, Reports, Stop, stopped};
 use crate::rules::read_rules;
 use lx_rules::Condition;
+use lx_rules::limits::MAX_SPECIFICATION_BYTES;
 use std::alloc::{AllocError, Global};
-
-/// Greatest number of bytes of a file.
-const MAX_FILE_BYTES: usize = 1_048_576;
 
 /// The options of an import.
 #[derive(Debug, Clone, Copy)]
@@ -91,7 +89,7 @@ fn draft_of(
     if text.starts_with(b"lx-tables ") {
         return stopped(0, Cause::Tables);
     }
-    if text.len() > MAX_FILE_BYTES {
+    if text.len() > MAX_SPECIFICATION_BYTES {
         return stopped(0, Cause::TooLong);
     }
     let mut cursor = Cursor {

@@ -7,10 +7,8 @@ use crate::cursor::{Cursor, between, blank_run, is_blank, skip};
 use crate::definitions::Declared;
 use crate::report::{Cause, Reports, Stop, stopped};
 use lx_flex_pattern::{Names, Reading, read_pattern};
+use lx_rules::limits::MAX_RULES;
 use std::alloc::{AllocError, Global};
-
-/// Greatest number of rules.
-const MAX_RULES: usize = 4096;
 
 /// Greatest number of scopes that are open at once.
 const MAX_SCOPES: usize = 64;

@@ -11,10 +11,8 @@ use crate::mirror::mirrors;
 use crate::printing::{printed, printed_tree};
 use crate::trees::{Pattern, Tree};
 use lx_ere::EreFault;
+use lx_ere::read::MAX_PATTERN_BYTES;
 use std::alloc::{AllocError, Global};
-
-/// Greatest number of bytes of a pattern or a substitute in lx.
-const MAX_LX_PATTERN_BYTES: usize = 1024;
 
 /// Reads the text as lx does.
 fn read_back(alloc: Global, text: &[u8]) -> Result<Option<lx_ere::Pattern>, AllocError>
@@ -66,7 +64,7 @@ pub fn translate(alloc: Global, pattern: &Pattern) -> Result<Vec<u8>, Cause>
     ensures { IfOk result (λ text. IsTranslation (pattern_of pattern.now) text.items) }
 {
     let text = printed(alloc, pattern)?;
-    if text.len() > MAX_LX_PATTERN_BYTES {
+    if text.len() > MAX_PATTERN_BYTES {
         return Err(Cause::TooLarge);
     }
     let Some(read) = read_back(alloc, text.as_slice())? else {
@@ -83,7 +81,7 @@ pub fn translate_substitute(alloc: Global, tree: &Tree) -> Result<Vec<u8>, Cause
     ensures { IfOk result (λ text. IsSubstituteOf (tree_of tree.now) text.items) }
 {
     let text = printed_tree(alloc, tree)?;
-    if text.len() > MAX_LX_PATTERN_BYTES {
+    if text.len() > MAX_PATTERN_BYTES {
         return Err(Cause::TooLarge);
     }
     let Some(read) = read_back_substitute(alloc, text.as_slice())? else {

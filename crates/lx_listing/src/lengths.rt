@@ -4,7 +4,7 @@ use lx_scan::FlatItem;
 
 // Bound on the bytes of all texts up to which they aren't summed. Each text has at most as many bytes as lie between the start of the first item and
 // the end of the last. So pieces of short texts cost nothing. Below the bound, a block exceeds the caller's limit only if items share a text.
-const SURELY_FEW: usize = 1_310_720;
+const SURELY_FEW: usize = 20 * 65_536;
 
 // Returns the number of bytes of the items' texts in total.
 fn text_bytes(items: &[FlatItem]) -> usize {

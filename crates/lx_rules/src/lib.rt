@@ -5,6 +5,7 @@ pub mod active;
 pub mod condition;
 pub mod definition;
 pub mod identifier;
+pub mod limits;
 pub mod name_table;
 pub mod rule;
 pub mod spec;

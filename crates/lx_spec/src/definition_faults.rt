@@ -9,8 +9,9 @@ ghost use Rattle.lx_spec.specs.views.Dictionaries.{dictionary_view};
 ghost use Rattle.lx_spec.specs.views.DefinitionFaults.{AreDefinitionFaults};
 
 use crate::dictionary::Dictionary;
-use crate::graph::{MAX_NAME_DEPTH, depths_of, spread};
+use crate::graph::{depths_of, spread};
 use lx_ere::expr::Expr;
+use lx_rules::limits::MAX_NAME_DEPTH;
 use std::alloc::{AllocError, Global};
 
 /// The faults of each definition: it leads to an unreadable substitute, it leads to an undefined name, or `MAX_NAME_DEPTH` names follow it in a

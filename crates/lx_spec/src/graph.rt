@@ -4,6 +4,7 @@ ghost use Rattle.std.specs.Prelude.{◌≡◌, ℕ, ◌+◌, ◌<◌, ◌≤◌,
 ghost use Rattle.lx_rules.specs.Limits.{max_name_depth};
 ghost use Rattle.lx_spec.specs.Graph.{IsMention, AreBelow, Leads, AreMarked, list_at, is_marked, Follow, AreSound, Reach};
 
+use lx_rules::limits::MAX_NAME_DEPTH;
 use std::alloc::{AllocError, Global};
 
 /// A mention of one definition by another, by their numbers.
@@ -12,9 +13,6 @@ pub struct Mention {
     pub from: usize,
     pub to: usize,
 }
-
-// Greatest number of names that are counted after the first one of a chain.
-pub(crate) const MAX_NAME_DEPTH: u8 = 32;
 
 // Returns `count` empty lists.
 fn empty_lists(alloc: Global, count: usize) -> Result<Vec<Vec<usize>>, AllocError>

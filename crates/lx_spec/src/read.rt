@@ -28,11 +28,9 @@ use crate::section::read_sections;
 use crate::symbol_table::SymbolTable;
 use lx_ere::extent::{one_pattern_end, some_pattern_end};
 use lx_ere::read::{one_reading, one_substitute, some_reading};
+use lx_rules::limits::MAX_SPECIFICATION_BYTES;
 use lx_rules::spec::Spec;
 use std::alloc::Global;
-
-// Greatest number of bytes of a specification.
-const MAX_SPECIFICATION_BYTES: usize = 1_048_576;
 
 // Reads the definitions and the rules. Err: the first fault of the rules.
 fn resolve_sections<'r, 't>(

@@ -20,14 +20,8 @@ use crate::line::{Line, line_of, next_word};
 use crate::parsed_sections::{OpenRule, ParsedSections, RawDefinition, RawRule, StartCondition};
 use crate::rule_line::{Prefix, RuleLine, rule_line_of};
 use bstr::ByteSlice;
+use lx_rules::limits::{MAX_DEFINITIONS, MAX_RULES, MAX_START_CONDITIONS};
 use std::alloc::Global;
-
-// Greatest numbers of start conditions, definitions and rules of a specification.
-const MAX_START_CONDITIONS: usize = 64;
-
-const MAX_DEFINITIONS: usize = 1024;
-
-const MAX_RULES: usize = 4096;
 
 /// The construct that a line is in.
 #[derive(Drop)]

@@ -5,8 +5,8 @@ ghost use Rattle.lx_automaton.specs.EncodedOptions.{decoded_option};
 ghost use Rattle.lx_automaton.specs.Automata.{max_states};
 ghost use Rattle.lx_tables.specs.Readers.{read_digits, read_count, read_start, read_line, read_kind, read_step, read_accepts, read_range, read_entry, read_run, below, within, step_of};
 
-use crate::limits::{MAX_RULES, MAX_START_CONDITIONS, MAX_STATES};
 use crate::version::Version;
+use lx_rules::limits::{MAX_RULES, MAX_START_CONDITIONS, MAX_STATES};
 use lx_rules::rule::{Kind, Step};
 
 /// Reads the number at the start of a text. The number stops growing at 429,496,729, so that it fits.

@@ -11,10 +11,10 @@ ghost use Rattle.lx_tables.specs.Views.{rule_view, rules_view, front_view, raw_v
 use crate::fields::{
     accepts, behind, byte_at, clamped, count, encoded_value, kind, run, start, step,
 };
-use crate::limits::{MAX_KINDS, MAX_RULES, MAX_START_CONDITIONS, MAX_STATES};
 use crate::raw::{RawFront, RawTables};
 use crate::table_rule::TableRule;
 use crate::version::Version;
+use lx_rules::limits::{MAX_KINDS, MAX_RULES, MAX_START_CONDITIONS, MAX_STATES};
 use lx_rules::rule::Step;
 use lx_rules::steps::Steps;
 use std::alloc::{AllocError, Global};

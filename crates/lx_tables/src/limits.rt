@@ -14,22 +14,11 @@ ghost use Rattle.lx_tables.specs.Views.{raw_view, rules_view};
 use crate::raw::RawTables;
 use crate::table_rule::TableRule;
 use lx_rules::identifier::is_identifier;
+use lx_rules::limits::{MAX_KINDS, MAX_RULES, MAX_START_CONDITIONS, MAX_STATES};
 use lx_rules::name_table::add_number;
 use lx_rules::rule::{Kind, Step};
 use std::alloc::{AllocError, Global};
 use std::collections::BTreeMap;
-
-/// Greatest number of start conditions of tables.
-pub(crate) const MAX_START_CONDITIONS: usize = 64;
-
-/// Greatest number of kinds with names.
-pub(crate) const MAX_KINDS: usize = 4_096;
-
-/// Greatest number of rules.
-pub(crate) const MAX_RULES: usize = 4_096;
-
-/// Greatest number of states.
-pub(crate) const MAX_STATES: usize = 16_512;
 
 // Returns true if the lists have the right lengths. Lists that were read leniently have them, except for the conditions. The test is cheaper than a
 // proof.
