@@ -26,11 +26,11 @@ first_line_text o = of_form o DIRECT_FIRST_LINE.now FIRST_LINE.now
 abbrev pub arrays_text : Options → Table → List ℕ
 arrays_text o table = if o.direct then marked_text o table else automaton_text o table
 
--- what the calls stand on
+-- the macros or functions that the calls use
 abbrev pub helpers_text : Options → List ℕ
 helpers_text o = of_form o MACROS.now HAS_STEP.now
 
--- what looks for the next match
+-- the search for the next match
 abbrev pub walk_text : Options → Table → List ℕ
 walk_text o table = if o.direct then direct_text o table else filled o.prefix WALK.now
 

@@ -113,21 +113,14 @@ fn push_marks(text: &mut Vec<u8>, options: &Options, tables: &Tables) -> Result<
     push(text, b"0};\n")
 }
 
-fn accepts(tables: &Tables, state: u32) -> bool
-    requires { state < state_count tables.now.machine }
-    ensures { result ≡ not (rows.rule_word (accepted_by tables.now.machine state) == 0) }
-{
-    rule_word(tables, state) != 0
-}
-
 // Returns true if a condition starts in a state that accepts a rule.
 fn accepts_at_once(tables: &Tables, condition: u16) -> bool
     requires { condition < length tables.now.machine.starts }
     ensures { result ≡ direct.accepts_at_once tables.now.machine
         (slice_index_or tables.now.machine.starts condition (0, 0)) }
 {
-    accepts(tables, tables.start(condition, false).0)
-        || accepts(tables, tables.start(condition, true).0)
+    rule_word(tables, tables.start(condition, false).0) != 0
+        || rule_word(tables, tables.start(condition, true).0) != 0
 }
 
 // Returns true if some condition does, so that a match may be empty.

@@ -106,13 +106,6 @@ fn pass_the_limit(tables: &Tables, options: &Options) -> bool
     first_kind(tables) + u64::from(tables.kinds().saturating_sub(1)) > 2_147_483_647
 }
 
-// Returns true if code for each state is asked for, and the states are too many.
-fn are_too_many(options: &Options, states: u32) -> bool
-    ensures { result ≡ kinds.are_too_many options.now states }
-{
-    options.is_direct() && states > MAX_DIRECT_STATES
-}
-
 /// Judges whether a scanner in C can be printed of the tables under these options: where it is code for each state, there are at most 1,000 (else
 /// [`KindFault::States`], E41); the numbers of the kinds are below 2,147,483,648 (else [`KindFault::Numbers`], E40); and no name of a kind is a word of C or C++, or
 /// one that the scanner declares for itself. Of several faults it gives the first one. Want of memory is a fault too.
@@ -122,7 +115,7 @@ pub fn judge(alloc: Global, tables: &Tables, options: &Options) -> Result<(), Ki
         (fault ≡ faults.Memory) ⊎ (kinds.kind_fault options.now tables.now ≡ Some fault)) }
 {
     let states = tables.states();
-    if are_too_many(options, states) {
+    if options.is_direct() && states > MAX_DIRECT_STATES {
         return Err(KindFault::States(states));
     }
     if pass_the_limit(tables, options) {

@@ -53,18 +53,7 @@ fn range_count(tables: &Tables, state: u32, staying: bool) -> u32
     count
 }
 
-// Returns true if the target steps to itself on a class on which the state doesn't lead there.
-fn is_stray(tables: &Tables, state: u32, target: u32, class: u8) -> bool
-    requires state { state < state_count tables.now.machine }
-    requires target { target < state_count tables.now.machine }
-    requires class { class < tables.now.machine.width }
-    ensures { result ≡ direct.is_stray tables.now.machine state target class }
-{
-    leads(Some(target), class_target(tables, target, class))
-        && !leads(Some(target), class_target(tables, state, class))
-}
-
-// Returns the number of classes on which that is so.
+// Returns the number of classes on which the target steps to itself and the state doesn't lead there.
 fn stray_count(tables: &Tables, state: u32, target: u32) -> u32
     requires state { state < state_count tables.now.machine }
     requires target { target < state_count tables.now.machine }
@@ -72,7 +61,9 @@ fn stray_count(tables: &Tables, state: u32, target: u32) -> u32
 {
     let mut count: u32 = 0;
     for class in 0..tables.classes() {
-        count += one_if(is_stray(tables, state, target, class as u8));
+        let is_stray = leads(Some(target), class_target(tables, target, class as u8))
+            && !leads(Some(target), class_target(tables, state, class as u8));
+        count += one_if(is_stray);
     }
     count
 }
@@ -167,13 +158,6 @@ fn is_entered(tables: &Tables, state: u32) -> bool
         is_entered = is_entered || step_count(tables, other, Some(state)) != 0;
     }
     is_entered
-}
-
-// Returns true if matches begin in a state to which no step leads.
-fn only_starts(tables: &Tables, state: u32) -> bool
-    ensures { result ≡ direct.only_starts tables.now.machine state }
-{
-    is_start(tables, state) && !is_entered(tables, state)
 }
 
 // Appends the test that a range of bytes begins with.
@@ -329,7 +313,7 @@ fn push_end(
     ensures { OnOk result (text.new.items
         ≡ text.old.items ++ direct.end_code options.now tables.now.machine state) }
 {
-    if only_starts(tables, state) {
+    if is_start(tables, state) && !is_entered(tables, state) {
         Ok(())
     } else {
         push_numbered(text, options, AT_END, rule_word(tables, state), b")\n")
