@@ -1,4 +1,4 @@
-//! Calls a library by the name of a call, so that `tests/refuse-memory` can refuse memory to each.
+//! Calls a library by the name of a call, so that `./test refuse-memory` can refuse memory to each.
 #![tactic(auto)]
 
 mod automata;

@@ -1,4 +1,4 @@
-//! Reports what `lx check` finds: as lines in the form of C compilers, as JSON, and as SARIF 2.1.0.
+//! Reports what `lx check` finds: as lines in the form of C compilers, and as SARIF 2.1.0.
 #![tactic(auto)]
 
 pub mod bytes;
