@@ -1,4 +1,4 @@
-//! Laws of the arrays, as C reads them.
+//! What C reads of the arrays.
 
 ghost use Rattle.std.specs.Prelude.{◌≡◌, None};
 ghost use Rattle.lx_automaton.specs.Automata.{Machine, IsMachine};

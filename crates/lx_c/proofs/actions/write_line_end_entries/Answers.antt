@@ -1,0 +1,18 @@
+use Rattle.lx_c.specs.Actions.{line_end_entry}
+use Rattle.lx_tables.specs.Model.{rule_at}
+use Rattle.std.proofs.Common.{length}
+use Rattle.std.proofs.Common.{arith}
+use Rattle.std.proofs.lemmas.Result.{err_from_is_err_and}
+use Rattle.lx_c.proofs.Written.{number_next, number_prefix, number_end}
+use Rattle.lx_c.proofs.actions.write_line_end_entries.Goals as goal
+
+pub returns-in_err-write_line_end_entry-clause-err : goal.returns-in_err-write_line_end_entry-clause-err
+returns-in_err-write_line_end_entry-clause-err g c =
+    let p = err_from_is_err_and c.from_residual.result c.from_residual.ensures.1 in
+    rw p.1 (number_prefix (λ r. line_end_entry (rule_at c.args.tables.now r).line_end) _ _ _ (length c.args.tables.now.rules) c.loop-rule.rule (omega arith) c.loop-rule.invariant (rw c.cut.ensures at c.in_err-write_line_end_entry.ensures.err))
+
+pub loop-rule-preserved : goal.loop-rule-preserved
+loop-rule-preserved g c = number_next (λ r. line_end_entry (rule_at c.args.tables.now r).line_end) _ _ _ (length c.args.tables.now.rules) c.loop-rule.rule (omega arith) c.loop-rule.invariant (rw c.cut.ensures at c.in_ok-write_line_end_entry.ensures.ok)
+
+pub returns-clause-ok : goal.returns-clause-ok
+returns-clause-ok g c = number_end (λ r. line_end_entry (rule_at c.args.tables.now r).line_end) _ _ (length c.args.tables.now.rules) c.loop-rule.rule (omega arith) c.loop-rule.invariant

@@ -1,0 +1,34 @@
+use Rattle.std.proofs.lemmas.Result.{err_from_is_err_and, on_err_weaker, on_ok_weaker}
+use Rattle.lx_c.proofs.Written.{wrote_both, prefix_more, prefix_then}
+use Rattle.lx_c.proofs.declarations.write_header.Goals as goal
+
+pub returns-in_err-write_filled-clause-err : goal.returns-in_err-write_filled-clause-err
+returns-in_err-write_filled-clause-err g c =
+    let p = err_from_is_err_and c.from_residual.result c.from_residual.ensures.1 in
+    rw p.1 (prefix_more _ (prefix_more _ (prefix_more _ (prefix_more _ (prefix_more _ c.in_err-write_filled.ensures.err)))))
+
+pub returns-in_err-write_include-clause-err : goal.returns-in_err-write_include-clause-err
+returns-in_err-write_include-clause-err g c =
+    let p = err_from_is_err_and c.from_residual-in_err-write_include.result c.from_residual-in_err-write_include.ensures.1 in
+    rw p.1 (prefix_more _ (prefix_more _ (prefix_more _ (prefix_more _ (prefix_then c.in_ok-write_filled.ensures.ok c.in_err-write_include.ensures.err)))))
+
+pub returns-in_err-write_kinds-clause-err : goal.returns-in_err-write_kinds-clause-err
+returns-in_err-write_kinds-clause-err g c =
+    let p = err_from_is_err_and c.from_residual-in_err-write_kinds.result c.from_residual-in_err-write_kinds.ensures.1 in
+    rw p.1 (prefix_more _ (prefix_more _ (prefix_more _ (prefix_then (wrote_both c.in_ok-write_filled.ensures.ok c.in_ok-write_include.ensures.ok) c.in_err-write_kinds.ensures.err))))
+
+pub returns-in_err-write_conditions-clause-err : goal.returns-in_err-write_conditions-clause-err
+returns-in_err-write_conditions-clause-err g c =
+    let p = err_from_is_err_and c.from_residual-in_err-write_conditions.result c.from_residual-in_err-write_conditions.ensures.1 in
+    rw p.1 (prefix_more _ (prefix_more _ (prefix_then (wrote_both (wrote_both c.in_ok-write_filled.ensures.ok c.in_ok-write_include.ensures.ok) c.in_ok-write_kinds.ensures.ok) c.in_err-write_conditions.ensures.err)))
+
+pub returns-in_err-write_condition_lines-clause-err : goal.returns-in_err-write_condition_lines-clause-err
+returns-in_err-write_condition_lines-clause-err g c =
+    let p = err_from_is_err_and c.from_residual-in_err-write_condition_lines.result c.from_residual-in_err-write_condition_lines.ensures.1 in
+    rw p.1 (prefix_more _ (prefix_then (wrote_both (wrote_both (wrote_both c.in_ok-write_filled.ensures.ok c.in_ok-write_include.ensures.ok) c.in_ok-write_kinds.ensures.ok) c.in_ok-write_conditions.ensures.ok) c.in_err-write_condition_lines.ensures.err))
+
+pub returns-clause-err : goal.returns-clause-err
+returns-clause-err g c = on_err_weaker c.write_filled-2.result (λ h. prefix_then (wrote_both (wrote_both (wrote_both (wrote_both c.in_ok-write_filled.ensures.ok c.in_ok-write_include.ensures.ok) c.in_ok-write_kinds.ensures.ok) c.in_ok-write_conditions.ensures.ok) c.in_ok-write_condition_lines.ensures.ok) h) c.write_filled-2.ensures.err
+
+pub returns-clause-ok : goal.returns-clause-ok
+returns-clause-ok g c = on_ok_weaker c.write_filled-2.result (λ h. wrote_both (wrote_both (wrote_both (wrote_both (wrote_both c.in_ok-write_filled.ensures.ok c.in_ok-write_include.ensures.ok) c.in_ok-write_kinds.ensures.ok) c.in_ok-write_conditions.ensures.ok) c.in_ok-write_condition_lines.ensures.ok) h) c.write_filled-2.ensures.ok

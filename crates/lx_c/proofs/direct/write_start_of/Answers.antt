@@ -1,0 +1,22 @@
+use Rattle.std.proofs.lemmas.Result.{err_from_is_err_and, on_err_weaker, on_ok_weaker}
+use Rattle.lx_c.proofs.Written.{wrote_both, prefix_more, prefix_then}
+use Rattle.std.proofs.Common.{codes}
+use Rattle.lx_c.specs.DirectCode.{numbered}
+use Rattle.lx_c.specs.declared.direct_templates.TheConstants.{GOTO_STATE}
+use Rattle.lx_c.proofs.direct.write_start_of.Goals as goal
+
+pub returns-in_err-write_case_number-clause-err : goal.returns-in_err-write_case_number-clause-err
+returns-in_err-write_case_number-clause-err g c =
+    let p = err_from_is_err_and c.from_residual.result c.from_residual.ensures.1 in
+    rw p.1 (prefix_more (numbered c.args.options.now GOTO_STATE.now c.args.elsewhere (codes ";\n")) (prefix_more (numbered c.args.options.now c.args.test.now c.args.at_line_begin (codes ";")) c.in_err-write_case_number.ensures.err))
+
+pub returns-in_err-write_numbered_text-clause-err : goal.returns-in_err-write_numbered_text-clause-err
+returns-in_err-write_numbered_text-clause-err g c =
+    let p = err_from_is_err_and c.from_residual-in_err-write_numbered_text.result c.from_residual-in_err-write_numbered_text.ensures.1 in
+    rw p.1 (prefix_more (numbered c.args.options.now GOTO_STATE.now c.args.elsewhere (codes ";\n")) (prefix_then c.in_ok-write_case_number.ensures.ok c.in_err-write_numbered_text.ensures.err))
+
+pub returns-clause-err : goal.returns-clause-err
+returns-clause-err g c = on_err_weaker c.write_numbered_text-2.result (λ h. prefix_then (wrote_both c.in_ok-write_case_number.ensures.ok c.in_ok-write_numbered_text.ensures.ok) h) c.write_numbered_text-2.ensures.err
+
+pub returns-clause-ok : goal.returns-clause-ok
+returns-clause-ok g c = on_ok_weaker c.write_numbered_text-2.result (λ h. wrote_both (wrote_both c.in_ok-write_case_number.ensures.ok c.in_ok-write_numbered_text.ensures.ok) h) c.write_numbered_text-2.ensures.ok

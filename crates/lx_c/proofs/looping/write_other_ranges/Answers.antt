@@ -1,0 +1,21 @@
+use Rattle.std.proofs.lemmas.Result.{err_from_is_err_and, on_err_weaker, on_ok_weaker}
+use Rattle.lx_c.proofs.Written.{wrote_both, prefix_more, prefix_then}
+use Rattle.std.proofs.Common.{codes, false}
+use Rattle.lx_c.specs.DirectCode.{ranges_text}
+use Rattle.lx_c.proofs.looping.write_other_ranges.Goals as goal
+
+pub returns-in_err-write_numbered_text-clause-err : goal.returns-in_err-write_numbered_text-clause-err
+returns-in_err-write_numbered_text-clause-err g c =
+    let p = err_from_is_err_and c.from_residual.result c.from_residual.ensures.1 in
+    rw p.1 (prefix_more (codes ")") (prefix_more (ranges_text c.args.tables.now.machine c.args.state false) c.in_err-write_numbered_text.ensures.err))
+
+pub returns-in_err-write_ranges-clause-err : goal.returns-in_err-write_ranges-clause-err
+returns-in_err-write_ranges-clause-err g c =
+    let p = err_from_is_err_and c.from_residual-in_err-write_ranges.result c.from_residual-in_err-write_ranges.ensures.1 in
+    rw p.1 (prefix_more (codes ")") (prefix_then c.in_ok-write_numbered_text.ensures.ok c.in_err-write_ranges.ensures.err))
+
+pub returns-clause-err : goal.returns-clause-err
+returns-clause-err g c = on_err_weaker c.write_bytes.result (λ h. prefix_then (wrote_both c.in_ok-write_numbered_text.ensures.ok c.in_ok-write_ranges.ensures.ok) h) c.write_bytes.ensures.err
+
+pub returns-clause-ok : goal.returns-clause-ok
+returns-clause-ok g c = on_ok_weaker c.write_bytes.result (λ h. wrote_both (wrote_both c.in_ok-write_numbered_text.ensures.ok c.in_ok-write_ranges.ensures.ok) h) c.write_bytes.ensures.ok

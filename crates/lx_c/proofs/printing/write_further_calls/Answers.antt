@@ -1,0 +1,19 @@
+use Rattle.std.proofs.lemmas.Result.{err_from_is_err_and, on_err_weaker, on_ok_weaker}
+use Rattle.lx_c.proofs.Written.{wrote_both, prefix_more, prefix_then}
+use Rattle.lx_c.proofs.printing.write_further_calls.Goals as goal
+
+pub returns-in_err-write_filled-clause-err : goal.returns-in_err-write_filled-clause-err
+returns-in_err-write_filled-clause-err g c =
+    let p = err_from_is_err_and c.from_residual.result c.from_residual.ensures.1 in
+    rw p.1 (prefix_more _ (prefix_more _ c.in_err-write_filled.ensures.err))
+
+pub returns-in_err-write_name_function-clause-err : goal.returns-in_err-write_name_function-clause-err
+returns-in_err-write_name_function-clause-err g c =
+    let p = err_from_is_err_and c.from_residual-in_err-write_name_function.result c.from_residual-in_err-write_name_function.ensures.1 in
+    rw p.1 (prefix_more _ (prefix_then c.in_ok-write_filled.ensures.ok c.in_err-write_name_function.ensures.err))
+
+pub returns-clause-err : goal.returns-clause-err
+returns-clause-err g c = on_err_weaker c.write_last_lines.result (λ h. prefix_then (wrote_both c.in_ok-write_filled.ensures.ok c.in_ok-write_name_function.ensures.ok) h) c.write_last_lines.ensures.err
+
+pub returns-clause-ok : goal.returns-clause-ok
+returns-clause-ok g c = on_ok_weaker c.write_last_lines.result (λ h. wrote_both (wrote_both c.in_ok-write_filled.ensures.ok c.in_ok-write_name_function.ensures.ok) h) c.write_last_lines.ensures.ok

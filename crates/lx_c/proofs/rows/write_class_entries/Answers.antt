@@ -1,0 +1,17 @@
+use Rattle.lx_c.specs.Rows.{entry_text}
+use Rattle.std.proofs.Common.{slice_index}
+use Rattle.std.proofs.Common.{arith}
+use Rattle.std.proofs.lemmas.Result.{err_from_is_err_and}
+use Rattle.lx_c.proofs.Written.{number_next, number_prefix, number_end}
+use Rattle.lx_c.proofs.rows.write_class_entries.Goals as goal
+
+pub returns-in_err-write_entry-clause-err : goal.returns-in_err-write_entry-clause-err
+returns-in_err-write_entry-clause-err g c =
+    let p = err_from_is_err_and c.from_residual.result c.from_residual.ensures.1 in
+    rw p.1 (number_prefix (λ b. entry_text (slice_index c.args.tables.now.machine.classes b)) _ _ _ (256) c.loop-byte.byte (omega arith) c.loop-byte.invariant (rw c.class_word.ensures at c.in_err-write_entry.ensures.err))
+
+pub loop-byte-preserved : goal.loop-byte-preserved
+loop-byte-preserved g c = number_next (λ b. entry_text (slice_index c.args.tables.now.machine.classes b)) _ _ _ (256) c.loop-byte.byte (omega arith) c.loop-byte.invariant (rw c.class_word.ensures at c.in_ok-write_entry.ensures.ok)
+
+pub returns-clause-ok : goal.returns-clause-ok
+returns-clause-ok g c = number_end (λ b. entry_text (slice_index c.args.tables.now.machine.classes b)) _ _ (256) c.loop-byte.byte (omega arith) c.loop-byte.invariant
