@@ -1,4 +1,4 @@
--- What was printed of actions is read again.
+-- Printed actions are read again.
 use Rattle.std.proofs.Common.{ℕ, zero, suc, ◌≡◌, ◌<◌, ◌≤◌, ◌+◌, ◌*◌, ◌-◌, Bool, true, false, List, [], ◌∷◌, ◌++◌, None, length, map, get_or, refl, sym, ◌∙◌, ap, subst, arith, append_assoc, append-nil}
 use Rattle.std.specs.Prelude.{decimal, codes, IsTrue, if◌then◌else◌}
 use Rattle.std.specs.Str.{all_ascii_digits}
@@ -58,7 +58,7 @@ action_read o first table (Echo ∷ steps) behind e small = refl
 action_read o first table (Begin c ∷ steps) behind e small = refl
 action_read o first table (Return kind ∷ steps) behind e small = word_read o first table (Return kind) behind e small.0
 
--- what holds of all rules, from number a on
+-- a law of all rules, from number a on
 actions_read : (o : Options) (first : ℕ) (table : Table) (a n : ℕ) → has_file o.include ≡ false → ((r : ℕ) → r < a + n → AreSmall first (rule_at table r).steps) →
     read_signed false 0 (flat_map (λ r. action_entry o first table (rule_at table r).steps) (range_with_len a n)) ≡ map (λ r. action_number first (rule_at table r).steps) (range_with_len a n)
 actions_read o first table a zero e small = refl

@@ -4,4 +4,4 @@ pub mod NoneOf
 pub mod Numbers
 pub mod OneAutomaton
 pub mod Reading
-pub mod Written
+pub mod Texts

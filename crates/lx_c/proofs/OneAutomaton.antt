@@ -40,7 +40,7 @@ rows_same f g w lf lg a (suc n) (suc k) e =
 word_same : (f g : ℕ → ℕ) (n : ℕ) → map f (range_with_len 0 n) ≡ map g (range_with_len 0 n) → (k : ℕ) → k < n → f k ≡ g k
 word_same f g n e k l = sym (get_or-map-range_with_len f 0 n k k 0 l (omega arith)) ∙ (ap (λ ws. get_or ws k 0) e ∙ get_or-map-range_with_len g 0 n k k 0 l (omega arith))
 
--- where the rows of two automata of one width begin
+-- the places of the rows of two automata of one width
 row_of_same : (m n : Machine) (s t : ℕ) → m.width ≡ n.width → row_of m s ≡ row_of n t → s ≡ t
 row_of_same m n s t w e =
     let same : (s + 1) * (m.width + 1) ≡ (t + 1) * (m.width + 1) = e ∙ ap (λ k. (t + 1) * (k + 1)) (sym w) in

@@ -1,4 +1,4 @@
--- What was printed of an automaton is read again.
+-- A printed automaton is read again.
 use Rattle.std.proofs.Common.{ℕ, zero, suc, ◌≡◌, ◌<◌, ◌≤◌, ◌+◌, ◌*◌, ◌-◌, Bool, true, false, List, [], ◌∷◌, ◌++◌, Option, Some, None, length, map, refl, sym, ◌∙◌, ap, subst, arith, append_assoc, append-nil, rules}
 use Rattle.std.specs.Prelude.{decimal, slice_index}
 use Rattle.std.specs.Str.{all_ascii_digits}

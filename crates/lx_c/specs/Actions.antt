@@ -38,11 +38,11 @@ steps_array o first table r steps =
     if is_simple steps then []
     else filled o.prefix STEP_ARRAY.now ++ number_then r (codes "[] = {") ++ flat_map (step_entry o first table) steps ++ codes "-1};\n"
 
--- where the steps of a rule stand
+-- the place of the steps of a rule
 abbrev pub steps_entry : Options → ℕ → List Step → List ℕ
 steps_entry o r steps = if is_simple steps then codes "0,\n" else filled o.prefix STEPS_OF.now ++ number_then r (codes ",\n")
 
--- what an action gives at once: a kind, -1 for nothing, or -4 where its steps are performed
+-- the number that an action gives at once: a kind, -1 for nothing, or -4 if its steps are performed
 abbrev pub action_word : Options → ℕ → Table → List Step → List ℕ
 action_word o first table [] = codes "-1"
 action_word o first table (Return kind ∷ steps) = step_word o first table (Return kind)
@@ -73,7 +73,7 @@ of_kinds table entry = flat_map (λ k. entry (kind_at table k)) (range_with_len 
 abbrev pub array_text : Options → List ℕ → List ℕ → List ℕ
 array_text o head entries = filled o.prefix head ++ entries ++ codes "0};\n"
 
--- whether some rule ends with `$`
+-- true if some rule ends with `$`
 abbrev pub has_line_ends : Table → Bool
 has_line_ends table = list_any (λ rule. rule.line_end) table.rules
 
@@ -83,7 +83,7 @@ line_end_entries table = of_rules table (λ r. line_end_entry (rule_at table r).
 abbrev pub line_ends_text : Options → Table → List ℕ
 line_ends_text o table = if has_line_ends table then filled o.prefix LINE_END.now ++ array_text o LINE_ENDS.now (line_end_entries table) else filled o.prefix NO_LINE_END.now
 
--- whether some action has an ECHO, behind whose token it goes on; behind a return none goes on
+-- true if some action has an ECHO, after whose token it goes on; after a return none goes on
 abbrev pub is_echo : Step → Bool
 is_echo Echo = true
 is_echo (Begin c) = false

@@ -18,11 +18,14 @@ include_text (Some file) = codes "#include \"" ++ file ++ codes "\"\n"
 abbrev pub kind_line : Options → ℕ → List ℕ → ℕ → List ℕ
 kind_line o first kind k = codes ",\n    " ++ name_in_c o kind ++ (codes " = " ++ number (first + k))
 
+abbrev pub kind_list : Options → ℕ → Table → List ℕ
+kind_list o first table = flat_map (λ k. kind_line o first (kind_at table k) k) (range_with_len 0 (length table.kinds))
+
 -- all kinds, where no file declares them
 abbrev pub kind_lines : Options → ℕ → Table → List ℕ
-kind_lines o first table = if has_file o.include then [] else flat_map (λ k. kind_line o first (kind_at table k) k) (range_with_len 0 (length table.kinds))
+kind_lines o first table = if has_file o.include then [] else kind_list o first table
 
--- where the numbers of kinds begin
+-- the first number of kinds
 abbrev pub first_kind_text : Options → ℕ → List ℕ
 first_kind_text o first = if has_file o.include then [] else filled o.prefix FIRST_KIND.now ++ number_then first (codes "\n")
 
@@ -36,7 +39,7 @@ condition_line o c = codes "#define " ++ o.prefix ++ codes "_in_" ++ slice_index
 abbrev pub condition_lines : Options → List ℕ
 condition_lines o = flat_map (condition_line o) (range_with_len 0 (length o.conditions))
 
--- what is given for a token: the special kinds, and all others
+-- the values of a token: the special kinds, and all others
 abbrev pub kinds_text : Options → ℕ → Table → List ℕ
 kinds_text o first table = filled o.prefix SPECIAL_KINDS.now ++ kind_lines o first table ++ filled o.prefix KINDS_END.now ++ first_kind_text o first
 

@@ -19,13 +19,13 @@ numbered o template n behind = filled o.prefix template ++ number_then n behind
 
 -- ---- what a state does
 
--- whether a step is there, and leads to the state that is asked for, if one is
+-- true if a step is there, and leads to the state that is asked for, if one is
 abbrev pub leads : Option ℕ → Option ℕ → Bool
 leads wanted None = false
 leads None (Some t) = true
 leads (Some s) (Some t) = t == s
 
--- whether it is that state, if one is given
+-- true if it is that state, if one is given
 abbrev pub is_it : Option ℕ → ℕ → Bool
 is_it None t = false
 is_it (Some s) t = t == s
@@ -42,12 +42,12 @@ steps_of m s wanted (suc n) = steps_of m s wanted n + one_if (leads wanted (clas
 abbrev pub step_count : Machine → ℕ → Option ℕ → ℕ
 step_count m s wanted = steps_of m s wanted m.width
 
--- how many steps lead to a state; two where there is none yet, since fewer than three are tested one by one
+-- the number of steps to a state; two if there is none yet, since fewer than three are tested one by one
 abbrev pub weight : Machine → ℕ → Option ℕ → ℕ
 weight m s None = 2
 weight m s (Some t) = step_count m s (Some t)
 
--- of two states that to which more steps lead, and of the same number the first; steps to itself don't count
+-- the target of more steps, and of two with as many the first one; steps to itself don't count
 abbrev pub heavier : Machine → ℕ → Option ℕ → Option ℕ → Option ℕ
 heavier m s best None = best
 heavier m s best (Some t) = if t == s then best else if nat_lt (weight m s best) (weight m s (Some t)) then Some t else best
@@ -62,19 +62,19 @@ main_target m s = heaviest m s m.width
 
 -- ---- the loop of a state
 
--- whether a state steps to itself on a byte, or whether it doesn't
+-- true if a state steps to itself on a byte, or, for false, if it doesn't
 abbrev pub stays : Machine → ℕ → Bool → ℕ → Bool
 stays m s true b = leads (Some s) (target_of m s b)
 stays m s false b = not (leads (Some s) (target_of m s b))
 
--- whether a range of such bytes begins with a byte, or ends with it
+-- true if a range of such bytes begins with a byte, or ends with it
 abbrev pub begins : Machine → ℕ → Bool → ℕ → Bool
 begins m s staying b = stays m s staying b && (b == 0 || not (stays m s staying (b - 1)))
 
 abbrev pub ends : Machine → ℕ → Bool → ℕ → Bool
 ends m s staying b = stays m s staying b && (b == 255 || not (stays m s staying (b + 1)))
 
--- how many such ranges begin with one of the first n bytes, and how many there are
+-- the number of such ranges that begin with one of the first n bytes, and of all
 abbrev pub ranges_of : Machine → ℕ → Bool → ℕ → ℕ
 ranges_of m s staying zero = 0
 ranges_of m s staying (suc n) = ranges_of m s staying n + one_if (begins m s staying n)
@@ -119,7 +119,7 @@ stays_text o m s =
 
 -- ---- the step that is asked for first
 
--- whether one state steps to itself on a class on which the other one doesn't lead there, and on how many of the first n classes
+-- true if one state steps to itself on a class on which the other one doesn't lead there, and on how many of the first n classes
 abbrev pub is_stray : Machine → ℕ → ℕ → ℕ → Bool
 is_stray m s t n = leads (Some t) (class_target m t n) && not (leads (Some t) (class_target m s n))
 
@@ -127,7 +127,7 @@ abbrev pub strays_of : Machine → ℕ → ℕ → ℕ → ℕ
 strays_of m s t zero = 0
 strays_of m s t (suc n) = strays_of m s t n + one_if (is_stray m s t n)
 
--- whether a state steps to itself, and the first one leads there on all of those bytes
+-- true if a state steps to itself, and the first one leads there on all of those bytes
 abbrev pub goes_on : Machine → ℕ → ℕ → Bool
 goes_on m s t = not (t == s) && (not (step_count m t (Some t) == 0) && strays_of m s t m.width == 0)
 
@@ -141,7 +141,7 @@ abbrev pub first_of : Machine → ℕ → ℕ → Option ℕ
 first_of m s zero = None
 first_of m s (suc n) = picked m s (first_of m s n) (class_target m s n)
 
--- whether a match begins in a state
+-- true if a match begins in a state
 abbrev pub starts_in : ℕ → ℕ × ℕ → Bool
 starts_in s start = start.0 == s || start.1 == s
 
@@ -150,12 +150,12 @@ first_target m s = if list_any (starts_in s) m.starts then first_of m s m.width 
 
 -- ---- the end of the text
 
--- whether one of the first n states has a step to a state
+-- true if one of the first n states has a step to a state
 abbrev pub is_entered_by : Machine → ℕ → ℕ → Bool
 is_entered_by m s zero = false
 is_entered_by m s (suc n) = is_entered_by m s n || not (step_count m n (Some s) == 0)
 
--- whether matches begin in a state to which no step leads: before these the text isn't at its end
+-- true if matches begin in a state to which no step leads: before these the text isn't at its end
 abbrev pub only_starts : Machine → ℕ → Bool
 only_starts m s = list_any (starts_in s) m.starts && not (is_entered_by m s (state_count m))
 
@@ -186,7 +186,7 @@ marks_text o table = array_text o MARKS.now (mark_lines table.machine)
 
 -- ---- whether a match may be empty
 
--- whether a condition starts in a state that accepts a rule
+-- true if a condition starts in a state that accepts a rule
 abbrev pub accepts_at_once : Machine → ℕ × ℕ → Bool
 accepts_at_once m start = not (rule_word (accepted_by m start.0) == 0) || not (rule_word (accepted_by m start.1) == 0)
 
@@ -194,7 +194,7 @@ abbrev pub emptiness_text : Options → Table → List ℕ
 emptiness_text o table =
     if list_any (accepts_at_once table.machine) table.machine.starts then filled o.prefix MAY_BE_EMPTY.now else filled o.prefix NONE_IS_EMPTY.now
 
--- what stands in the place of the arrays of the automaton
+-- the text in the place of the arrays of the automaton
 abbrev pub marked_text : Options → Table → List ℕ
 marked_text o table = line_begin_text o table ++ emptiness_text o table ++ marks_text o table
 
@@ -215,15 +215,18 @@ case_text m class b = if slice_index m.classes b == class then codes "case " ++ 
 abbrev pub case_texts : Machine → ℕ → List ℕ
 case_texts m class = flat_map (case_text m class) (range_with_len 0 256)
 
--- whether a step on a class may be one on a newline
+-- true if a step on a class may be one on a newline
 abbrev pub newline_text : Options → Machine → ℕ → List ℕ
 newline_text o m class = if slice_index m.classes 10 == class then filled o.prefix NEWLINE.now else []
+
+abbrev pub step_code : Options → Machine → ℕ → ℕ → ℕ → List ℕ
+step_code o m s class t = case_texts m class ++ newline_text o m class ++ edge_text o m s t
 
 -- the step on a class, if it leads neither to the state itself nor to the main target
 abbrev pub class_code : Options → Machine → ℕ → Option ℕ → ℕ → Option ℕ → List ℕ
 class_code o m s main class None = []
 class_code o m s main class (Some t) =
-    if t == s then [] else if is_it main t then [] else case_texts m class ++ newline_text o m class ++ edge_text o m s t
+    if t == s then [] else if is_it main t then [] else step_code o m s class t
 
 abbrev pub class_codes : Options → Machine → ℕ → Option ℕ → List ℕ
 class_codes o m s main = flat_map (λ class. class_code o m s main class (class_target m s class)) (range_with_len 0 m.width)
@@ -266,7 +269,7 @@ state_codes o m = flat_map (state_code o m) (range_with_len 0 (state_count m))
 
 -- ---- all code
 
--- where a condition starts, by a test whether the match begins at line begin
+-- the state in which a condition starts, by a test for line begin
 abbrev pub start_code : Options → List ℕ → Machine → ℕ → List ℕ
 start_code o test m c =
     codes "case " ++ number c ++ numbered o test (start_of m c true) (codes ";") ++ numbered o GOTO_STATE.now (start_of m c false) (codes ";\n")
@@ -287,7 +290,7 @@ rule_cases o table = flat_map (rule_case o) (range_with_len 0 (length table.rule
 abbrev pub rule_codes : Options → Table → List ℕ
 rule_codes o table = flat_map (rule_code o) (range_with_len 0 (length table.rules))
 
--- what looks for the next match
+-- the search for the next match
 abbrev pub states_text : Options → Machine → List ℕ
 states_text o m = filled o.prefix BEGIN_MATCH.now ++ start_codes o AT_LINE_BEGIN.now m ++ filled o.prefix BEGIN_STATES.now ++ state_codes o m
 

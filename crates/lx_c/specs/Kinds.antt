@@ -19,7 +19,7 @@ capitals text = flat_map (λ c. capital c ∷ []) text
 abbrev pub name_in_c : Options → List ℕ → List ℕ
 name_in_c o kind = if has_file o.include then kind else capitals o.prefix ++ codes "_" ++ kind
 
--- whether the part stands somewhere in the text
+-- true if the text has the part somewhere
 abbrev pub has_part : List ℕ → List ℕ → Bool
 has_part part [] = false
 has_part part (c ∷ text) = starts_with nat_eq (c ∷ text) part || has_part part text
@@ -39,7 +39,7 @@ begins_as_own prefix name = starts_with nat_eq name prefix && (nat_lt (length pr
 abbrev pub is_own : Options → List ℕ → Bool
 is_own o kind = if has_file o.include then begins_as_own o.prefix kind else false
 
--- what is wrong with the name of a kind
+-- the fault of the name of a kind
 abbrev pub name_fault : Options → ℕ → List ℕ → Option KindFault
 name_fault o k kind =
     if is_word (name_in_c o kind) then Some (Reserved k)
@@ -67,7 +67,7 @@ pass_the_limit o table = if has_file o.include then false else nat_lt max_int (f
 abbrev pub are_too_many : Options → ℕ → Bool
 are_too_many o states = if o.direct then nat_lt max_direct_states states else false
 
--- what is wrong with the states or the kinds, if anything is
+-- the fault of the states or the kinds, if there is one
 abbrev pub kind_fault : Options → Table → Option KindFault
 kind_fault o table =
     if are_too_many o (state_count table.machine) then Some (States (state_count table.machine))

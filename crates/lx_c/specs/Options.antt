@@ -1,4 +1,4 @@
--- What is asked for beside the tables: the prefix of all names, the names of start conditions where they are known, and the file that declares the kinds, if
+-- The options of a scanner in C: the prefix of all names, the names of start conditions where they are known, and the file that declares the kinds, if
 -- there is one; and whether code for each state is to be printed, in the place of rows by classes of bytes.
 use Rattle.std.specs.Prelude.{ℕ, ◌==◌, ◌&&◌, ◌||◌, not, nat_le, if◌then◌else◌, Bool, true, false, IsTrue, List, [], ◌∷◌, Option, Some, None, length}
 use Rattle.std.specs.List.{list_all}
@@ -8,7 +8,7 @@ use Rattle.lx_c.specs.declared.fault.OptionFault.TheVariants.{Prefix, Condition,
 
 pub record Options : Type 0 where
   pub prefix : List ℕ
-  -- of each condition, in order; none where they aren't known
+  -- the names of all conditions, in order; none if they aren't known
   pub conditions : List (List ℕ)
   pub include : Option (List ℕ)
   pub direct : Bool
@@ -42,7 +42,7 @@ pub record AreOptions (o : Options) : Type 0 where
   pub conditions : IsTrue (list_all is_identifier o.conditions)
   pub include : IsTrue (is_any_include o.include)
 
--- whether a file declares the kinds
+-- true if a file declares the kinds
 abbrev pub has_file : Option (List ℕ) → Bool
 has_file None = false
 has_file (Some file) = true

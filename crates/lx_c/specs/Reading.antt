@@ -1,4 +1,4 @@
--- What C reads of the arrays.
+-- The arrays, as C reads them.
 use Rattle.std.specs.Prelude.{◌≡◌, ℕ, ◌+◌, ◌*◌, ◌-◌, ◌==◌, if◌then◌else◌, List, [], ◌∷◌, ◌++◌, length, map, codes, ◌<◌, Bool, true, false}
 use Rattle.std.specs.Char.{is_ascii_digit}
 use Rattle.std.specs.List.{flat_map, range_with_len}
@@ -54,14 +54,14 @@ step_number first (Begin c) = (true, 4 + c)
 step_number first (Return (Name k)) = (false, first + k)
 step_number first (Return (Number n)) = (false, n)
 
--- what an action gives at once
+-- the number that an action gives at once
 abbrev pub action_number : ℕ → List Step → Bool × ℕ
 action_number first [] = (true, 1)
 action_number first (Return kind ∷ steps) = step_number first (Return kind)
 action_number first (Echo ∷ steps) = (true, 4)
 action_number first (Begin c ∷ steps) = (true, 4)
 
--- what the rule with this number does, and whether it ends with `$`
+-- the number that the action of a rule gives, and 1 if the rule ends with `$`
 abbrev pub action_of : Table → ℕ → Bool × ℕ
 action_of table r = action_number (first_kind table) (rule_at table r).steps
 

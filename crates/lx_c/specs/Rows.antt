@@ -32,7 +32,7 @@ rows_text m = zero_entries m ++ codes "\n" ++ row_lines m
 abbrev pub class_entries : Machine → List ℕ
 class_entries m = flat_map (λ b. entry_text (slice_index m.classes b)) (range_with_len 0 256)
 
--- of a condition: where the row of the state begins that it starts in, not at line begin and at line begin
+-- the places of the rows of the states in which a condition starts, not at line begin and at line begin
 abbrev pub start_line : Machine → ℕ → List ℕ
 start_line m c = entry_text (row_of m (start_of m c false)) ++ entry_text (row_of m (start_of m c true)) ++ codes "\n"
 
@@ -43,14 +43,17 @@ start_lines m = flat_map (start_line m) (range_with_len 0 (length m.starts))
 abbrev pub type_text : ℕ → List ℕ
 type_text most = if nat_lt most 256 then codes "unsigned char" else if nat_lt most 65536 then codes "unsigned short" else codes "unsigned int"
 
--- an array of words of the table, behind its type
+abbrev pub word_array_head : Options → Table → List ℕ → List ℕ
+word_array_head o table head = codes "static const " ++ type_text (greatest_word table) ++ filled o.prefix head
+
+-- an array of words of the table, after its type
 abbrev pub word_array : Options → Table → List ℕ → List ℕ → List ℕ
-word_array o table head entries = codes "static const " ++ type_text (greatest_word table) ++ filled o.prefix head ++ entries ++ codes "0};\n"
+word_array o table head entries = word_array_head o table head ++ entries ++ codes "0};\n"
 
 abbrev pub starts_differ : ℕ × ℕ → Bool
 starts_differ start = not (start.0 == start.1)
 
--- whether a start condition has another start at line begin
+-- true if a start condition has another start at line begin
 abbrev pub line_begin_text : Options → Table → List ℕ
 line_begin_text o table = if list_any starts_differ table.machine.starts then filled o.prefix LINE_BEGIN.now else filled o.prefix NO_LINE_BEGIN.now
 

@@ -16,23 +16,26 @@ use Rattle.lx_c.specs.declared.direct_templates.TheConstants.{DIRECT_FIRST_LINE,
 abbrev pub name_text : Options → List ℕ
 name_text o = if has_file o.include then filled o.prefix NAME_OF_KIND.now else filled o.prefix NAME_OF_NUMBER.now
 
--- the form: by rows of classes, or by code for each state
+-- the template of the form: code for each state, or rows of classes
+abbrev pub of_form : Options → List ℕ → List ℕ → List ℕ
+of_form o direct rows = if o.direct then filled o.prefix direct else filled o.prefix rows
+
 abbrev pub first_line_text : Options → List ℕ
-first_line_text o = if o.direct then filled o.prefix DIRECT_FIRST_LINE.now else filled o.prefix FIRST_LINE.now
+first_line_text o = of_form o DIRECT_FIRST_LINE.now FIRST_LINE.now
 
 abbrev pub arrays_text : Options → Table → List ℕ
 arrays_text o table = if o.direct then marked_text o table else automaton_text o table
 
--- what the calls stand on
+-- the macros or functions that the calls use
 abbrev pub helpers_text : Options → List ℕ
-helpers_text o = if o.direct then filled o.prefix MACROS.now else filled o.prefix HAS_STEP.now
+helpers_text o = of_form o MACROS.now HAS_STEP.now
 
--- what looks for the next match
+-- the search for the next match
 abbrev pub walk_text : Options → Table → List ℕ
 walk_text o table = if o.direct then direct_text o table else filled o.prefix WALK.now
 
 abbrev pub last_lines_text : Options → List ℕ
-last_lines_text o = if o.direct then filled o.prefix DIRECT_LAST_LINES.now else filled o.prefix LAST_LINES.now
+last_lines_text o = of_form o DIRECT_LAST_LINES.now LAST_LINES.now
 
 -- the calls up to where the next match is looked for, and those behind
 abbrev pub calls_text : Options → List ℕ

@@ -4,11 +4,11 @@ use Rattle.std.specs.Prelude.{ℕ, ◌+◌, ◌*◌, max, Option, Some, None, le
 use Rattle.lx_automaton.specs.Automata.{Machine, state_count}
 use Rattle.lx_tables.specs.Model.{Table}
 
--- how many words a row has
+-- the number of words of a row
 abbrev pub row_width : Machine → ℕ
 row_width m = m.width + 1
 
--- where the row of a state begins
+-- the place where the row of a state begins
 abbrev pub row_of : Machine → ℕ → ℕ
 row_of m s = (s + 1) * row_width m
 

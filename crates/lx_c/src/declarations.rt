@@ -1,23 +1,27 @@
 //! The declarations of a scanner in C.
 
-ghost use Rattle.lx_c.specs.Declarations.{condition_line, conditions_text, first_kind_text, header_from, include_text, kind_line, kind_lines, kinds_text};
+ghost use Rattle.lx_c.specs.Declarations as declarations;
 ghost use Rattle.lx_c.specs.Kinds.{capital, capitals, name_in_c};
-ghost use Rattle.lx_c.specs.Templates.{filled, number_then};
-ghost use Rattle.lx_c.specs.declared.templates.TheConstants.{FIRST_KIND};
-ghost use Rattle.lx_tables.specs.Model.{kind_at};
-ghost use Rattle.lx_tables.specs.Output.{Wrote, WrotePrefix};
-ghost use Rattle.lx_tables.specs.Texts.{number};
-ghost use Rattle.std.specs.List.{flat_map, range_with_len};
-ghost use Rattle.std.specs.Prelude.{OnErr, OnOk, [], codes, length, option_map, ◌++◌, ◌+◌, ◌<◌, ◌∷◌, ◌≡◌, ◌≤◌};
 ghost use Rattle.lx_c.specs.Numbers.{max_first_kind};
+ghost use Rattle.std.specs.Prelude.{OnOk, length, ◌++◌, ◌<◌, ◌≡◌, ◌≤◌};
 
-use crate::filling::write_filled;
 use crate::options::Options;
+use crate::pushing::{push, push_filled, push_number, push_number_then};
 use crate::templates::{CONDITIONS, FIRST_KIND, FUNCTIONS, GUARD, KINDS_END, SPECIAL_KINDS};
-use crate::writing::{write_bytes, write_number_then, write_numbered, write_parts};
-use itoa::Buffer;
 use lx_tables::Tables;
-use std::io::{self, Write};
+use std::alloc::AllocError;
+
+fn push_include(text: &mut Vec<u8>, options: &Options) -> Result<(), AllocError>
+    ensures { OnOk result
+        (text.new.items ≡ text.old.items ++ declarations.include_text options.now.include) }
+{
+    let Some(file) = options.include() else {
+        return Ok(());
+    };
+    push(text, b"#include \"")?;
+    push(text, file)?;
+    push(text, b"\"\n")
+}
 
 fn to_capital(letter: u8) -> u8
     ensures { result ≡ capital letter }
@@ -29,262 +33,164 @@ fn to_capital(letter: u8) -> u8
     }
 }
 
-fn write_include_of<W: Write>(out: &mut W, include: Option<&[u8]>) -> Result<(), io::Error>
-    ensures ok { OnOk result (Wrote (W.contents out.old) (W.contents out.new)
-        (include_text (option_map (λ file. file.now) include.entry))) }
-    ensures err { OnErr result (WrotePrefix (W.contents out.old) (W.contents out.new)
-        (include_text (option_map (λ file. file.now) include.entry))) }
+fn push_capitals(text: &mut Vec<u8>, word: &[u8]) -> Result<(), AllocError>
+    ensures { OnOk result (text.new.items ≡ text.old.items ++ capitals word.now) }
 {
-    match include {
-        None => Ok(()),
-        Some(file) => write_parts(out, &[b"#include \"", file, b"\"\n"]),
-    }
-}
-
-fn write_include<W: Write>(out: &mut W, options: &Options) -> Result<(), io::Error>
-    ensures ok { OnOk result
-        (Wrote (W.contents out.old) (W.contents out.new) (include_text options.now.include)) }
-    ensures err { OnErr result
-        (WrotePrefix (W.contents out.old) (W.contents out.new) (include_text options.now.include)) }
-{
-    write_include_of(out, options.include())
-}
-
-fn write_capital<W: Write>(out: &mut W, letter: u8) -> Result<(), io::Error>
-    ensures ok { OnOk result
-        (Wrote (W.contents out.old) (W.contents out.new) (capital letter ∷ [])) }
-    ensures err { OnErr result
-        (WrotePrefix (W.contents out.old) (W.contents out.new) (capital letter ∷ [])) }
-{
-    write_bytes(out, &[to_capital(letter)])
-}
-
-fn write_capitals<W: Write>(out: &mut W, text: &[u8]) -> Result<(), io::Error>
-    ensures ok { OnOk result (Wrote (W.contents out.old) (W.contents out.new) (capitals text.now)) }
-    ensures err { OnErr result
-        (WrotePrefix (W.contents out.old) (W.contents out.new) (capitals text.now)) }
-{
-    for letter in text {
-        write_capital(out, *letter)?;
+    for letter in word {
+        push(text, &[to_capital(*letter)])?;
     }
     Ok(())
 }
 
-fn write_behind_prefix<W: Write>(out: &mut W, prefix: &[u8], kind: &[u8]) -> Result<(), io::Error>
-    ensures ok { OnOk result (Wrote (W.contents out.old) (W.contents out.new)
-        (capitals prefix.now ++ codes "_" ++ kind.now)) }
-    ensures err { OnErr result (WrotePrefix (W.contents out.old) (W.contents out.new)
-        (capitals prefix.now ++ codes "_" ++ kind.now)) }
-{
-    write_capitals(out, prefix)?;
-    write_bytes(out, b"_")?;
-    write_bytes(out, kind)
-}
-
-/// Writes the name of a kind in C.
-pub(crate) fn write_name<W: Write>(
-    out: &mut W,
+/// Appends the name of a kind in C.
+pub(crate) fn push_name(
+    text: &mut Vec<u8>,
     options: &Options,
     kind: &[u8],
-) -> Result<(), io::Error>
-    ensures ok { OnOk result
-        (Wrote (W.contents out.old) (W.contents out.new) (name_in_c options.now kind.now)) }
-    ensures err { OnErr result
-        (WrotePrefix (W.contents out.old) (W.contents out.new) (name_in_c options.now kind.now)) }
+) -> Result<(), AllocError>
+    ensures { OnOk result (text.new.items ≡ text.old.items ++ name_in_c options.now kind.now) }
 {
     if options.has_include() {
-        write_bytes(out, kind)
-    } else {
-        write_behind_prefix(out, options.prefix(), kind)
+        return push(text, kind);
     }
+    push_capitals(text, options.prefix())?;
+    push(text, b"_")?;
+    push(text, kind)
 }
 
-fn write_kind_number<W: Write>(out: &mut W, first: u64, place: u32) -> Result<(), io::Error>
-    requires { first ≤ max_first_kind }
-    ensures ok { OnOk result
-        (Wrote (W.contents out.old) (W.contents out.new) (codes " = " ++ number (first + place))) }
-    ensures err { OnErr result (WrotePrefix (W.contents out.old) (W.contents out.new)
-        (codes " = " ++ number (first + place))) }
-{
-    write_numbered(out, b" = ", first + u64::from(place))
-}
-
-fn write_kind_line<W: Write>(
-    out: &mut W,
+fn push_kind_line(
+    text: &mut Vec<u8>,
     options: &Options,
     first: u64,
     kind: &[u8],
     place: u32,
-) -> Result<(), io::Error>
+) -> Result<(), AllocError>
     requires { first ≤ max_first_kind }
-    ensures ok { OnOk result (Wrote (W.contents out.old) (W.contents out.new)
-        (kind_line options.now first kind.now place)) }
-    ensures err { OnErr result (WrotePrefix (W.contents out.old) (W.contents out.new)
-        (kind_line options.now first kind.now place)) }
+    ensures { OnOk result (text.new.items
+        ≡ text.old.items ++ declarations.kind_line options.now first kind.now place) }
 {
-    write_bytes(out, b",\n    ")?;
-    write_name(out, options, kind)?;
-    write_kind_number(out, first, place)
+    push(text, b",\n    ")?;
+    push_name(text, options, kind)?;
+    push(text, b" = ")?;
+    push_number(text, first + u64::from(place))
 }
 
-fn write_kind_list<W: Write>(
-    out: &mut W,
+fn push_kind_list(
+    text: &mut Vec<u8>,
     options: &Options,
     first: u64,
     tables: &Tables,
-) -> Result<(), io::Error>
+) -> Result<(), AllocError>
     requires { first ≤ max_first_kind }
-    ensures ok { OnOk result (Wrote (W.contents out.old) (W.contents out.new) (flat_map
-        (λ k. kind_line options.now first (kind_at tables.now k) k)
-        (range_with_len 0 (length tables.now.kinds)))) }
-    ensures err { OnErr result (WrotePrefix (W.contents out.old) (W.contents out.new) (flat_map
-        (λ k. kind_line options.now first (kind_at tables.now k) k)
-        (range_with_len 0 (length tables.now.kinds)))) }
+    ensures { OnOk result (text.new.items
+        ≡ text.old.items ++ declarations.kind_list options.now first tables.now) }
 {
     for place in 0..tables.kinds() {
-        write_kind_line(out, options, first, tables.kind(place), place)?;
+        push_kind_line(text, options, first, tables.kind(place), place)?;
     }
     Ok(())
 }
 
-fn write_kind_lines<W: Write>(
-    out: &mut W,
+// Appends all kinds, if no file declares them.
+fn push_kind_lines(
+    text: &mut Vec<u8>,
     options: &Options,
     first: u64,
     tables: &Tables,
-) -> Result<(), io::Error>
+) -> Result<(), AllocError>
     requires { first ≤ max_first_kind }
-    ensures ok { OnOk result (Wrote (W.contents out.old) (W.contents out.new)
-        (kind_lines options.now first tables.now)) }
-    ensures err { OnErr result (WrotePrefix (W.contents out.old) (W.contents out.new)
-        (kind_lines options.now first tables.now)) }
+    ensures { OnOk result (text.new.items
+        ≡ text.old.items ++ declarations.kind_lines options.now first tables.now) }
 {
     if options.has_include() {
         Ok(())
     } else {
-        write_kind_list(out, options, first, tables)
+        push_kind_list(text, options, first, tables)
     }
 }
 
-fn write_first_number<W: Write>(out: &mut W, options: &Options, first: u64) -> Result<(), io::Error>
-    ensures ok { OnOk result (Wrote (W.contents out.old) (W.contents out.new)
-        (filled options.now.prefix FIRST_KIND.now ++ number_then first (codes "\n"))) }
-    ensures err { OnErr result (WrotePrefix (W.contents out.old) (W.contents out.new)
-        (filled options.now.prefix FIRST_KIND.now ++ number_then first (codes "\n"))) }
-{
-    write_filled(out, options, FIRST_KIND)?;
-    write_number_then(out, first, b"\n")
-}
-
-fn write_first_kind<W: Write>(out: &mut W, options: &Options, first: u64) -> Result<(), io::Error>
-    ensures ok { OnOk result
-        (Wrote (W.contents out.old) (W.contents out.new) (first_kind_text options.now first)) }
-    ensures err { OnErr result (WrotePrefix (W.contents out.old) (W.contents out.new)
-        (first_kind_text options.now first)) }
+// Appends the number of the first kind, if no file declares the kinds.
+fn push_first_kind(text: &mut Vec<u8>, options: &Options, first: u64) -> Result<(), AllocError>
+    ensures { OnOk result (text.new.items
+        ≡ text.old.items ++ declarations.first_kind_text options.now first) }
 {
     if options.has_include() {
-        Ok(())
-    } else {
-        write_first_number(out, options, first)
+        return Ok(());
     }
+    push_filled(text, options, FIRST_KIND)?;
+    push_number_then(text, first, b"\n")
 }
 
-fn write_kinds<W: Write>(
-    out: &mut W,
+fn push_kinds(
+    text: &mut Vec<u8>,
     options: &Options,
     first: u64,
     tables: &Tables,
-) -> Result<(), io::Error>
+) -> Result<(), AllocError>
     requires { first ≤ max_first_kind }
-    ensures ok { OnOk result (Wrote (W.contents out.old) (W.contents out.new)
-        (kinds_text options.now first tables.now)) }
-    ensures err { OnErr result (WrotePrefix (W.contents out.old) (W.contents out.new)
-        (kinds_text options.now first tables.now)) }
+    ensures { OnOk result
+        (text.new.items ≡ text.old.items ++ declarations.kinds_text options.now first tables.now) }
 {
-    write_filled(out, options, SPECIAL_KINDS)?;
-    write_kind_lines(out, options, first, tables)?;
-    write_filled(out, options, KINDS_END)?;
-    write_first_kind(out, options, first)
+    push_filled(text, options, SPECIAL_KINDS)?;
+    push_kind_lines(text, options, first, tables)?;
+    push_filled(text, options, KINDS_END)?;
+    push_first_kind(text, options, first)
 }
 
-fn write_condition_count<W: Write>(out: &mut W, tables: &Tables) -> Result<(), io::Error>
-    ensures ok { OnOk result (Wrote (W.contents out.old) (W.contents out.new)
-        (number_then (length tables.now.machine.starts) (codes "\n"))) }
-    ensures err { OnErr result (WrotePrefix (W.contents out.old) (W.contents out.new)
-        (number_then (length tables.now.machine.starts) (codes "\n"))) }
-{
-    write_number_then(out, u64::from(tables.conditions()), b"\n")
-}
-
-fn write_conditions<W: Write>(
-    out: &mut W,
-    options: &Options,
-    tables: &Tables,
-) -> Result<(), io::Error>
-    ensures ok { OnOk result
-        (Wrote (W.contents out.old) (W.contents out.new) (conditions_text options.now tables.now)) }
-    ensures err { OnErr result (WrotePrefix (W.contents out.old) (W.contents out.new)
-        (conditions_text options.now tables.now)) }
-{
-    write_filled(out, options, CONDITIONS)?;
-    write_condition_count(out, tables)
-}
-
-fn write_condition_line<W: Write>(
-    out: &mut W,
+fn push_condition_line(
+    text: &mut Vec<u8>,
     options: &Options,
     condition: usize,
-) -> Result<(), io::Error>
+) -> Result<(), AllocError>
     requires { condition < length options.now.conditions }
-    ensures ok { OnOk result
-        (Wrote (W.contents out.old) (W.contents out.new) (condition_line options.now condition)) }
-    ensures err { OnErr result (WrotePrefix (W.contents out.old) (W.contents out.new)
-        (condition_line options.now condition)) }
+    ensures { OnOk result
+        (text.new.items ≡ text.old.items ++ declarations.condition_line options.now condition) }
 {
-    let mut digits = Buffer::new();
-    write_parts(
-        out,
-        &[
-            b"#define ",
-            options.prefix(),
-            b"_in_",
-            options.condition(condition),
-            b" ",
-            digits.format(condition).as_bytes(),
-            b"\n",
-        ],
-    )
+    push(text, b"#define ")?;
+    push(text, options.prefix())?;
+    push(text, b"_in_")?;
+    push(text, options.condition(condition))?;
+    push(text, b" ")?;
+    push_number_then(text, condition as u64, b"\n")
 }
 
-fn write_condition_lines<W: Write>(out: &mut W, options: &Options) -> Result<(), io::Error>
-    ensures ok { OnOk result (Wrote (W.contents out.old) (W.contents out.new) (flat_map
-        (condition_line options.now) (range_with_len 0 (length options.now.conditions)))) }
-    ensures err { OnErr result (WrotePrefix (W.contents out.old) (W.contents out.new) (flat_map
-        (condition_line options.now) (range_with_len 0 (length options.now.conditions)))) }
+fn push_condition_lines(text: &mut Vec<u8>, options: &Options) -> Result<(), AllocError>
+    ensures { OnOk result
+        (text.new.items ≡ text.old.items ++ declarations.condition_lines options.now) }
 {
     for condition in 0..options.conditions() {
-        write_condition_line(out, options, condition)?;
+        push_condition_line(text, options, condition)?;
     }
     Ok(())
 }
 
-/// Writes the declarations, where the first kind has this number.
-pub(crate) fn write_header<W: Write>(
-    out: &mut W,
+fn push_condition_count(
+    text: &mut Vec<u8>,
+    options: &Options,
+    tables: &Tables,
+) -> Result<(), AllocError>
+    ensures { OnOk result (text.new.items
+        ≡ text.old.items ++ declarations.conditions_text options.now tables.now) }
+{
+    push_filled(text, options, CONDITIONS)?;
+    push_number_then(text, u64::from(tables.conditions()), b"\n")
+}
+
+/// Appends the declarations; the first kind has the number `first`.
+pub(crate) fn push_header(
+    text: &mut Vec<u8>,
     options: &Options,
     first: u64,
     tables: &Tables,
-) -> Result<(), io::Error>
+) -> Result<(), AllocError>
     requires { first ≤ max_first_kind }
-    ensures ok { OnOk result (Wrote (W.contents out.old) (W.contents out.new)
-        (header_from options.now first tables.now)) }
-    ensures err { OnErr result (WrotePrefix (W.contents out.old) (W.contents out.new)
-        (header_from options.now first tables.now)) }
+    ensures { OnOk result
+        (text.new.items ≡ text.old.items ++ declarations.header_from options.now first tables.now) }
 {
-    write_filled(out, options, GUARD)?;
-    write_include(out, options)?;
-    write_kinds(out, options, first, tables)?;
-    write_conditions(out, options, tables)?;
-    write_condition_lines(out, options)?;
-    write_filled(out, options, FUNCTIONS)
+    push_filled(text, options, GUARD)?;
+    push_include(text, options)?;
+    push_kinds(text, options, first, tables)?;
+    push_condition_count(text, options, tables)?;
+    push_condition_lines(text, options)?;
+    push_filled(text, options, FUNCTIONS)
 }

@@ -5,11 +5,11 @@ pub(crate) const DIRECT_FIRST_LINE: &[u8] =
     br#"/* @: a scanner printed by lx gen --c; form direct. */
 "#;
 
-/// What each four states do on each byte.
+/// The marks: what each four states do on each byte.
 pub(crate) const MARKS: &[u8] = br#"static const unsigned char @__mark[] = {
 "#;
 
-/// Whether a match may be empty, which is none.
+/// The macro that says if a match may be empty, which counts as none.
 pub(crate) const MAY_BE_EMPTY: &[u8] = br#"#define @__EMPTY 1
 "#;
 
@@ -17,7 +17,7 @@ pub(crate) const MAY_BE_EMPTY: &[u8] = br#"#define @__EMPTY 1
 pub(crate) const NONE_IS_EMPTY: &[u8] = br#"#define @__EMPTY 0
 "#;
 
-/// What the code of states and rules stands on.
+/// The macros that the code of states and rules uses.
 pub(crate) const MACROS: &[u8] =
     br#"/* Whether a state steps on a byte to itself (1), or to another state (2). */
 #define @__STEPS(state, byte, how) (@__mark[(state) / 4 * 256 + (byte)] & ((how) << (state) % 4 * 2))
@@ -139,7 +139,7 @@ pub(crate) const BEGIN_STATES: &[u8] = br#"        }
 /// The label of a state; its number stands behind.
 pub(crate) const STATE_LABEL: &[u8] = br#"@__s"#;
 
-/// Where a state steps to itself, by the marks; its number stands behind.
+/// The loop of a state by the marks; its number follows.
 pub(crate) const LOOP: &[u8] = br#"@__LOOP("#;
 
 /// The same by ranges of bytes, which stand behind the number.
@@ -154,7 +154,7 @@ pub(crate) const AT_END: &[u8] = br#"if (p == end) @__AT_END(@__a"#;
 /// The step to a state that steps to itself on the same bytes, before all others; its number stands behind.
 pub(crate) const FIRST: &[u8] = br#"if (@__STEPS("#;
 
-/// Where a step may be one on a newline.
+/// The code before a step that may be one on a newline.
 pub(crate) const NEWLINE: &[u8] = br#"@__LINES(newline = 1;) "#;
 
 /// A step; the number of the state to which it leads stands behind.
@@ -163,10 +163,10 @@ pub(crate) const GO: &[u8] = br#"@__GO(@__s"#;
 /// The steps to the state to which most lead; the number of that from which they lead stands behind.
 pub(crate) const OTHER: &[u8] = br#"default: @__OTHER("#;
 
-/// What is done where a state has no step; the number of its rule plus 1, or 0, stands behind.
+/// The code for a missing step; the number of the state's rule plus 1, or 0, follows.
 pub(crate) const GOTO_RULE: &[u8] = br#"goto @__a"#;
 
-/// What is done where the last state accepts no rule.
+/// The code for a last state that accepts no rule.
 pub(crate) const BACK: &[u8] = br#"@__a0:
         p = last;
         switch (rule) {
@@ -183,10 +183,10 @@ pub(crate) const NO_RULE: &[u8] = br#"        default: @__MATCHED(0)
 /// The label of a rule; its number plus 1 stands behind.
 pub(crate) const RULE_LABEL: &[u8] = br#"@__a"#;
 
-/// What is done with a match of a rule; its number plus 1 stands behind.
+/// The code for a match of a rule; its number plus 1 follows.
 pub(crate) const MATCHED: &[u8] = br#"@__MATCHED("#;
 
-/// What is done behind a match that is skipped. What has to be known of the next one is known here, so that it begins by a `switch` of its own.
+/// The code after a match that is skipped. All that the next match needs is known here, so it begins by a `switch` of its own.
 pub(crate) const SKIPPED: &[u8] = br#"@__skip:
         @__LINES(if (newline) @__count(s, from, p);)
         from = last = p;
@@ -202,7 +202,7 @@ pub(crate) const SKIPPED: &[u8] = br#"@__skip:
         default:
 "#;
 
-/// What ends a match.
+/// The code at the end of a match.
 pub(crate) const END_MATCH: &[u8] = br#"        }
 @__more:
         /* Something may have been skipped. */
@@ -225,7 +225,7 @@ pub(crate) const END_MATCH: &[u8] = br#"        }
     }
 "#;
 
-/// What ends a scanner in this form.
+/// The end of a scanner in this form.
 pub(crate) const DIRECT_LAST_LINES: &[u8] = br#"
 #undef @__AT_END
 #undef @__BEGIN

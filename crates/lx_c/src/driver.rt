@@ -1,6 +1,6 @@
 //! The driver: the calls of a scanner, the same for all tables, with `@` for the prefix. What looks for the next match differs by the form.
 
-/// What the calls stand on.
+/// The functions that the calls use.
 pub(crate) const HELPERS: &[u8] = br#"
 /* What is there for lines alone. */
 #ifdef @__NO_LINES
@@ -154,7 +154,7 @@ pub(crate) const WALK: &[u8] = br#"    while (kind == @_END) {
     }
 "#;
 
-/// What is done with a match, and the calls behind it.
+/// The code for a match, and the calls after it.
 pub(crate) const FURTHER_CALLS: &[u8] = br#"    s->from = (size_t)(from - text);
     @__LINES(s->from_line = line; s->from_line_start = line_start;)
     s->at = (size_t)(p - text);

@@ -6,7 +6,7 @@ ghost use Rattle.lx_c.specs.declared.fault.KindFault.TheVariants.{Memory};
 use std::alloc::{AllocError, AllocFailed};
 use thiserror::Error;
 
-/// What is wrong with options.
+/// A fault of options.
 #[derive(Debug, Clone, Copy, PartialEq, Eq, Error)]
 pub enum OptionFault {
     /// The prefix is no small letter with up to 31 small letters, digits or `_` behind it.

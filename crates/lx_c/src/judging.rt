@@ -1,21 +1,19 @@
-//! Whether a scanner in C can be printed of tables.
+//! Judges if a scanner in C can be printed of tables.
 
-ghost use Rattle.std.specs.Prelude.{◌≡◌, ◌⊎◌, ℕ, List, Some, None, IfOk, IfErr, OnOk, OnErr};
-ghost use Rattle.lx_tables.specs.Output.{Wrote, WrotePrefix};
+ghost use Rattle.std.specs.Prelude.{◌≡◌, ◌⊎◌, ℕ, List, Some, None, IfOk, IfErr};
 ghost use Rattle.lx_c.specs.Kinds as kinds;
 ghost use Rattle.lx_c.specs.declared.fault.KindFault.TheVariants as faults;
 
-use crate::declarations::write_name;
+use crate::declarations::push_name;
 use crate::fault::KindFault;
 use crate::first_kind;
 use crate::options::Options;
+use crate::pushing::push;
 use crate::words::WORDS;
-use crate::writing::write_bytes;
 use lx_tables::Tables;
 use std::alloc::{AllocError, Global};
-use std::io::{self, Write};
 
-/// Code for each state is printed of so many states at most.
+/// The most states of which code for each is printed; above it is E41.
 pub const MAX_DIRECT_STATES: u32 = 1000;
 
 fn has_part(text: &[u8], part: &[u8]) -> bool
@@ -31,51 +29,39 @@ fn has_part(text: &[u8], part: &[u8]) -> bool
     false
 }
 
-/// Whether the name, with a blank on both sides, is one of the words of C and C++.
+// Returns true if a name, with a blank on both sides, is a word of C or C++.
 fn is_spaced_word(spaced: &[u8]) -> bool
     ensures { (name : List ℕ) → spaced.now ≡ kinds.spaced name → result ≡ kinds.is_word name }
 {
     has_part(WORDS, spaced)
 }
 
-/// Whether the name begins with the prefix, and has `_` behind that.
+// Returns true if a name begins with the prefix and `_`.
 fn begins_as_own(prefix: &[u8], name: &[u8]) -> bool
     ensures { result ≡ kinds.begins_as_own prefix.now name.now }
 {
     name.starts_with(prefix) && (prefix.len() < name.len() && name[prefix.len()] == b'_')
 }
 
-/// Whether the scanner may have the name of the kind for itself.
+// Returns true if the scanner may need the name of the kind for itself.
 fn is_own(options: &Options, kind: &[u8]) -> bool
     ensures { result ≡ kinds.is_own options.now kind.now }
 {
     options.has_include() && begins_as_own(options.prefix(), kind)
 }
 
-fn write_spaced<W: Write>(out: &mut W, options: &Options, kind: &[u8]) -> Result<(), io::Error>
-    ensures ok { OnOk result (Wrote (W.contents out.old) (W.contents out.new)
-        (kinds.spaced (kinds.name_in_c options.now kind.now))) }
-    ensures err { OnErr result (WrotePrefix (W.contents out.old) (W.contents out.new)
-        (kinds.spaced (kinds.name_in_c options.now kind.now))) }
-{
-    write_bytes(out, b" ")?;
-    write_name(out, options, kind)?;
-    write_bytes(out, b" ")
-}
-
-/// The name of a kind in C, with a blank on both sides.
+// Returns the name of a kind in C, with a blank on both sides.
 fn spaced_name(alloc: Global, options: &Options, kind: &[u8]) -> Result<Vec<u8>, AllocError>
     ensures { IfOk result
         (λ spaced. spaced.items ≡ kinds.spaced (kinds.name_in_c options.now kind.now)) }
 {
-    let mut spaced = Vec::new(alloc);
-    match write_spaced(&mut spaced, options, kind) {
-        Ok(()) => Ok(spaced),
-        Err(_) => Err(AllocError),
-    }
+    let mut spaced = Vec::from_slice(alloc, b" ")?;
+    push_name(&mut spaced, options, kind)?;
+    push(&mut spaced, b" ")?;
+    Ok(spaced)
 }
 
-/// What is wrong with the name of a kind, if anything is.
+// Returns the fault of the name of a kind, if it has one.
 fn name_fault(
     alloc: Global,
     options: &Options,
@@ -94,7 +80,7 @@ fn name_fault(
     Ok(None)
 }
 
-/// The first fault of the names of kinds.
+// Returns the first fault of the names of kinds.
 fn first_name_fault(
     alloc: Global,
     tables: &Tables,
@@ -110,7 +96,7 @@ fn first_name_fault(
     Ok(None)
 }
 
-/// Whether the numbers of the kinds pass what an int of 32 bits can be.
+// Returns true if the numbers of the kinds pass the greatest int of 32 bits.
 fn pass_the_limit(tables: &Tables, options: &Options) -> bool
     ensures { result ≡ kinds.pass_the_limit options.now tables.now }
 {
@@ -118,13 +104,6 @@ fn pass_the_limit(tables: &Tables, options: &Options) -> bool
         return false;
     }
     first_kind(tables) + u64::from(tables.kinds().saturating_sub(1)) > 2_147_483_647
-}
-
-/// Whether code for each of so many states is asked for, and they are too many.
-fn are_too_many(options: &Options, states: u32) -> bool
-    ensures { result ≡ kinds.are_too_many options.now states }
-{
-    options.is_direct() && states > MAX_DIRECT_STATES
 }
 
 /// Judges whether a scanner in C can be printed of the tables under these options: where it is code for each state, there are at most 1,000 (else
@@ -136,7 +115,7 @@ pub fn judge(alloc: Global, tables: &Tables, options: &Options) -> Result<(), Ki
         (fault ≡ faults.Memory) ⊎ (kinds.kind_fault options.now tables.now ≡ Some fault)) }
 {
     let states = tables.states();
-    if are_too_many(options, states) {
+    if options.is_direct() && states > MAX_DIRECT_STATES {
         return Err(KindFault::States(states));
     }
     if pass_the_limit(tables, options) {

@@ -1,4 +1,4 @@
-//! What C reads of the arrays.
+//! Laws of the arrays, as C reads them.
 
 ghost use Rattle.std.specs.Prelude.{◌≡◌, None};
 ghost use Rattle.lx_automaton.specs.Automata.{Machine, IsMachine};

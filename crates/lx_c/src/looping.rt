@@ -1,23 +1,19 @@
 //! The loop of a state, and the step that is asked for before all others.
 
-ghost use Rattle.lx_automaton.specs.Automata.{accepted_by, state_count};
+ghost use Rattle.lx_automaton.specs.Automata.{state_count};
 ghost use Rattle.lx_c.specs.DirectCode as direct;
-ghost use Rattle.lx_c.specs.DirectCode.{at_most, begin_code, end_code, high_bound, high_text, loop_code, low_bound, low_text, numbered, other_ranges_text, own_ranges_text, range_text, ranges_text, stays_text};
-ghost use Rattle.lx_c.specs.Words as rows;
-ghost use Rattle.lx_c.specs.declared.direct_templates.TheConstants.{AT_END};
-ghost use Rattle.lx_tables.specs.Output.{Wrote, WrotePrefix};
-ghost use Rattle.std.specs.List.{flat_map, list_any, range_with_len};
-ghost use Rattle.std.specs.Prelude.{IfSome, OnErr, OnOk, Some, codes, length, not, slice_index_or, ◌==◌, ◌<◌, ◌≡◌};
+ghost use Rattle.std.specs.List.{list_any};
+ghost use Rattle.std.specs.Prelude.{IfSome, OnOk, length, slice_index_or, ◌++◌, ◌<◌, ◌≡◌};
 
 use crate::direct_templates::{AT_END, LOOP, LOOP_RULE, RANGES};
 use crate::options::Options;
+use crate::pushing::{push, push_number, push_number_then, push_numbered};
 use crate::rule_word;
-use crate::stepping::{class_target, leads, one_if, step_count, target_of, write_numbered_text};
-use crate::writing::{write_bytes, write_number_then, write_numbered};
+use crate::stepping::{class_target, leads, one_if, step_count, target_of};
 use lx_tables::Tables;
-use std::io::{self, Write};
+use std::alloc::AllocError;
 
-/// Whether a state steps to itself on a byte; where `staying` is false, whether it doesn't.
+// Returns true if a state steps to itself on a byte; if `staying` is false, true if it doesn't.
 fn stays(tables: &Tables, state: u32, staying: bool, byte: u16) -> bool
     requires state { state < state_count tables.now.machine }
     requires byte { byte < 256 }
@@ -27,7 +23,7 @@ fn stays(tables: &Tables, state: u32, staying: bool, byte: u16) -> bool
     if staying { is_loop } else { !is_loop }
 }
 
-/// Whether a range of such bytes begins with a byte.
+// Returns true if a range of such bytes begins with a byte.
 fn begins(tables: &Tables, state: u32, staying: bool, byte: u16) -> bool
     requires state { state < state_count tables.now.machine }
     requires byte { byte < 256 }
@@ -36,7 +32,7 @@ fn begins(tables: &Tables, state: u32, staying: bool, byte: u16) -> bool
     stays(tables, state, staying, byte) && (byte == 0 || !stays(tables, state, staying, byte - 1))
 }
 
-/// Whether a range of such bytes ends with a byte.
+// Returns true if a range of such bytes ends with a byte.
 fn ends(tables: &Tables, state: u32, staying: bool, byte: u16) -> bool
     requires state { state < state_count tables.now.machine }
     requires byte { byte < 256 }
@@ -45,7 +41,7 @@ fn ends(tables: &Tables, state: u32, staying: bool, byte: u16) -> bool
     stays(tables, state, staying, byte) && (byte == 255 || !stays(tables, state, staying, byte + 1))
 }
 
-/// How many ranges of such bytes there are.
+// Returns the number of ranges of such bytes.
 fn range_count(tables: &Tables, state: u32, staying: bool) -> u32
     requires { state < state_count tables.now.machine }
     ensures { result ≡ direct.range_count tables.now.machine state staying }
@@ -57,18 +53,7 @@ fn range_count(tables: &Tables, state: u32, staying: bool) -> u32
     count
 }
 
-/// Whether one state steps to itself on a class on which the other one doesn't lead there.
-fn is_stray(tables: &Tables, state: u32, target: u32, class: u8) -> bool
-    requires state { state < state_count tables.now.machine }
-    requires target { target < state_count tables.now.machine }
-    requires class { class < tables.now.machine.width }
-    ensures { result ≡ direct.is_stray tables.now.machine state target class }
-{
-    leads(Some(target), class_target(tables, target, class))
-        && !leads(Some(target), class_target(tables, state, class))
-}
-
-/// On how many classes that is so.
+// Returns the number of classes on which the target steps to itself and the state doesn't lead there.
 fn stray_count(tables: &Tables, state: u32, target: u32) -> u32
     requires state { state < state_count tables.now.machine }
     requires target { target < state_count tables.now.machine }
@@ -76,12 +61,14 @@ fn stray_count(tables: &Tables, state: u32, target: u32) -> u32
 {
     let mut count: u32 = 0;
     for class in 0..tables.classes() {
-        count += one_if(is_stray(tables, state, target, class as u8));
+        let is_stray = leads(Some(target), class_target(tables, target, class as u8))
+            && !leads(Some(target), class_target(tables, state, class as u8));
+        count += one_if(is_stray);
     }
     count
 }
 
-/// Whether a state steps to itself, and the first one leads there on all of those bytes.
+// Returns true if the target steps to itself, and the state leads there on all of those bytes.
 fn goes_on(tables: &Tables, state: u32, target: u32) -> bool
     requires state { state < state_count tables.now.machine }
     requires target { target < state_count tables.now.machine }
@@ -92,7 +79,7 @@ fn goes_on(tables: &Tables, state: u32, target: u32) -> bool
             && stray_count(tables, state, target) == 0)
 }
 
-/// The earlier one of such states.
+// Returns the earlier one of such targets.
 fn picked(tables: &Tables, state: u32, best: Option<u32>, target: Option<u32>) -> Option<u32>
     requires state { state < state_count tables.now.machine }
     requires best { IfSome best (λ t. t < state_count tables.now.machine) }
@@ -113,7 +100,7 @@ fn picked(tables: &Tables, state: u32, best: Option<u32>, target: Option<u32>) -
     }
 }
 
-/// The first such state to which a state leads.
+// Returns the first such target of a state.
 fn first_of(tables: &Tables, state: u32) -> Option<u32>
     requires { state < state_count tables.now.machine }
     ensures target { result ≡ direct.first_of tables.now.machine state tables.now.machine.width }
@@ -127,7 +114,7 @@ fn first_of(tables: &Tables, state: u32) -> Option<u32>
     best
 }
 
-/// Whether matches in a condition begin in a state.
+// Returns true if matches in a condition begin in a state.
 fn starts_in(tables: &Tables, condition: u16, state: u32) -> bool
     requires { condition < length tables.now.machine.starts }
     ensures { result
@@ -136,7 +123,7 @@ fn starts_in(tables: &Tables, condition: u16, state: u32) -> bool
     tables.start(condition, false).0 == state || tables.start(condition, true).0 == state
 }
 
-/// Whether matches begin in a state.
+// Returns true if matches begin in a state.
 fn is_start(tables: &Tables, state: u32) -> bool
     ensures { result ≡ list_any (direct.starts_in state) tables.now.machine.starts }
 {
@@ -148,7 +135,7 @@ fn is_start(tables: &Tables, state: u32) -> bool
     false
 }
 
-/// The state that is asked for before all others.
+/// Returns the target of the step that is asked for before all others.
 pub(crate) fn first_target(tables: &Tables, state: u32) -> Option<u32>
     requires { state < state_count tables.now.machine }
     ensures target { result ≡ direct.first_target tables.now.machine state }
@@ -161,294 +148,192 @@ pub(crate) fn first_target(tables: &Tables, state: u32) -> Option<u32>
     }
 }
 
-/// Whether a state has a step to another one.
-fn enters(tables: &Tables, state: u32, target: u32) -> bool
-    requires { state < state_count tables.now.machine }
-    ensures { result ≡ not (direct.step_count tables.now.machine state (Some target) == 0) }
-{
-    step_count(tables, state, Some(target)) != 0
-}
-
-/// Whether some state has a step to a state.
+// Returns true if some state has a step to a state.
 fn is_entered(tables: &Tables, state: u32) -> bool
     ensures { result
         ≡ direct.is_entered_by tables.now.machine state (state_count tables.now.machine) }
 {
     let mut is_entered = false;
     for other in 0..tables.states() {
-        is_entered = is_entered || enters(tables, other, state);
+        is_entered = is_entered || step_count(tables, other, Some(state)) != 0;
     }
     is_entered
 }
 
-/// Whether matches begin in a state to which no step leads.
-fn only_starts(tables: &Tables, state: u32) -> bool
-    ensures { result ≡ direct.only_starts tables.now.machine state }
+// Appends the test that a range of bytes begins with.
+fn push_low(
+    text: &mut Vec<u8>,
+    tables: &Tables,
+    state: u32,
+    staying: bool,
+    byte: u16,
+) -> Result<(), AllocError>
+    requires state { state < state_count tables.now.machine }
+    requires byte { byte < 256 }
+    ensures { OnOk result
+        (text.new.items ≡ text.old.items ++ direct.low_text tables.now.machine state staying byte) }
 {
-    is_start(tables, state) && !is_entered(tables, state)
-}
-
-/// Writes where a range begins.
-fn write_low_bound<W: Write>(out: &mut W, byte: u16) -> Result<(), io::Error>
-    ensures ok { OnOk result (Wrote (W.contents out.old) (W.contents out.new) (low_bound byte)) }
-    ensures err { OnErr result
-        (WrotePrefix (W.contents out.old) (W.contents out.new) (low_bound byte)) }
-{
+    if !begins(tables, state, staying, byte) {
+        return Ok(());
+    }
     if byte == 0 {
-        write_bytes(out, b"(1")
-    } else {
-        write_numbered(out, b"(c >= ", u64::from(byte))
+        return push(text, b"(1");
     }
+    push(text, b"(c >= ")?;
+    push_number(text, u64::from(byte))
 }
 
-fn write_low<W: Write>(
-    out: &mut W,
+// Appends the test that a range of bytes ends with.
+fn push_high(
+    text: &mut Vec<u8>,
     tables: &Tables,
     state: u32,
     staying: bool,
     byte: u16,
-) -> Result<(), io::Error>
+) -> Result<(), AllocError>
     requires state { state < state_count tables.now.machine }
     requires byte { byte < 256 }
-    ensures ok { OnOk result (Wrote (W.contents out.old) (W.contents out.new)
-        (low_text tables.now.machine state staying byte)) }
-    ensures err { OnErr result (WrotePrefix (W.contents out.old) (W.contents out.new)
-        (low_text tables.now.machine state staying byte)) }
+    ensures { OnOk result (text.new.items
+        ≡ text.old.items ++ direct.high_text tables.now.machine state staying byte) }
 {
-    if begins(tables, state, staying, byte) {
-        write_low_bound(out, byte)
-    } else {
-        Ok(())
+    if !ends(tables, state, staying, byte) {
+        return Ok(());
     }
-}
-
-fn write_at_most<W: Write>(out: &mut W, byte: u16) -> Result<(), io::Error>
-    ensures ok { OnOk result (Wrote (W.contents out.old) (W.contents out.new) (at_most byte)) }
-    ensures err { OnErr result
-        (WrotePrefix (W.contents out.old) (W.contents out.new) (at_most byte)) }
-{
-    write_bytes(out, b" && c <= ")?;
-    write_number_then(out, u64::from(byte), b") || ")
-}
-
-/// Writes where a range ends.
-fn write_high_bound<W: Write>(out: &mut W, byte: u16) -> Result<(), io::Error>
-    ensures ok { OnOk result (Wrote (W.contents out.old) (W.contents out.new) (high_bound byte)) }
-    ensures err { OnErr result
-        (WrotePrefix (W.contents out.old) (W.contents out.new) (high_bound byte)) }
-{
     if byte == 255 {
-        write_bytes(out, b") || ")
-    } else {
-        write_at_most(out, byte)
+        return push(text, b") || ");
     }
+    push(text, b" && c <= ")?;
+    push_number_then(text, u64::from(byte), b") || ")
 }
 
-fn write_high<W: Write>(
-    out: &mut W,
+fn push_range(
+    text: &mut Vec<u8>,
     tables: &Tables,
     state: u32,
     staying: bool,
     byte: u16,
-) -> Result<(), io::Error>
+) -> Result<(), AllocError>
     requires state { state < state_count tables.now.machine }
     requires byte { byte < 256 }
-    ensures ok { OnOk result (Wrote (W.contents out.old) (W.contents out.new)
-        (high_text tables.now.machine state staying byte)) }
-    ensures err { OnErr result (WrotePrefix (W.contents out.old) (W.contents out.new)
-        (high_text tables.now.machine state staying byte)) }
+    ensures { OnOk result (text.new.items
+        ≡ text.old.items ++ direct.range_text tables.now.machine state staying byte) }
 {
-    if ends(tables, state, staying, byte) {
-        write_high_bound(out, byte)
-    } else {
-        Ok(())
-    }
+    push_low(text, tables, state, staying, byte)?;
+    push_high(text, tables, state, staying, byte)
 }
 
-fn write_range<W: Write>(
-    out: &mut W,
+fn push_ranges(
+    text: &mut Vec<u8>,
     tables: &Tables,
     state: u32,
     staying: bool,
-    byte: u16,
-) -> Result<(), io::Error>
-    requires state { state < state_count tables.now.machine }
-    requires byte { byte < 256 }
-    ensures ok { OnOk result (Wrote (W.contents out.old) (W.contents out.new)
-        (range_text tables.now.machine state staying byte)) }
-    ensures err { OnErr result (WrotePrefix (W.contents out.old) (W.contents out.new)
-        (range_text tables.now.machine state staying byte)) }
-{
-    write_low(out, tables, state, staying, byte)?;
-    write_high(out, tables, state, staying, byte)
-}
-
-fn write_range_list<W: Write>(
-    out: &mut W,
-    tables: &Tables,
-    state: u32,
-    staying: bool,
-) -> Result<(), io::Error>
+) -> Result<(), AllocError>
     requires { state < state_count tables.now.machine }
-    ensures ok { OnOk result (Wrote (W.contents out.old) (W.contents out.new)
-        (flat_map (range_text tables.now.machine state staying) (range_with_len 0 (256)))) }
-    ensures err { OnErr result (WrotePrefix (W.contents out.old) (W.contents out.new)
-        (flat_map (range_text tables.now.machine state staying) (range_with_len 0 (256)))) }
+    ensures { OnOk result
+        (text.new.items ≡ text.old.items ++ direct.ranges_text tables.now.machine state staying) }
 {
     for byte in 0..256 {
-        write_range(out, tables, state, staying, byte)?;
+        push_range(text, tables, state, staying, byte)?;
     }
-    Ok(())
+    push(text, b"0")
 }
 
-fn write_ranges<W: Write>(
-    out: &mut W,
-    tables: &Tables,
-    state: u32,
-    staying: bool,
-) -> Result<(), io::Error>
-    requires { state < state_count tables.now.machine }
-    ensures ok { OnOk result (Wrote (W.contents out.old) (W.contents out.new)
-        (ranges_text tables.now.machine state staying)) }
-    ensures err { OnErr result (WrotePrefix (W.contents out.old) (W.contents out.new)
-        (ranges_text tables.now.machine state staying)) }
-{
-    write_range_list(out, tables, state, staying)?;
-    write_bytes(out, b"0")
-}
-
-fn write_own_ranges<W: Write>(
-    out: &mut W,
+fn push_own_ranges(
+    text: &mut Vec<u8>,
     options: &Options,
     tables: &Tables,
     state: u32,
-) -> Result<(), io::Error>
+) -> Result<(), AllocError>
     requires { state < state_count tables.now.machine }
-    ensures ok { OnOk result (Wrote (W.contents out.old) (W.contents out.new)
-        (own_ranges_text options.now tables.now.machine state)) }
-    ensures err { OnErr result (WrotePrefix (W.contents out.old) (W.contents out.new)
-        (own_ranges_text options.now tables.now.machine state)) }
+    ensures { OnOk result (text.new.items
+        ≡ text.old.items ++ direct.own_ranges_text options.now tables.now.machine state) }
 {
-    write_numbered_text(out, options, RANGES, state, b", ")?;
-    write_ranges(out, tables, state, true)
+    push_numbered(text, options, RANGES, state, b", ")?;
+    push_ranges(text, tables, state, true)
 }
 
-fn write_other_ranges<W: Write>(
-    out: &mut W,
+fn push_other_ranges(
+    text: &mut Vec<u8>,
     options: &Options,
     tables: &Tables,
     state: u32,
-) -> Result<(), io::Error>
+) -> Result<(), AllocError>
     requires { state < state_count tables.now.machine }
-    ensures ok { OnOk result (Wrote (W.contents out.old) (W.contents out.new)
-        (other_ranges_text options.now tables.now.machine state)) }
-    ensures err { OnErr result (WrotePrefix (W.contents out.old) (W.contents out.new)
-        (other_ranges_text options.now tables.now.machine state)) }
+    ensures { OnOk result (text.new.items
+        ≡ text.old.items ++ direct.other_ranges_text options.now tables.now.machine state) }
 {
-    write_numbered_text(out, options, RANGES, state, b", !(")?;
-    write_ranges(out, tables, state, false)?;
-    write_bytes(out, b")")
+    push_numbered(text, options, RANGES, state, b", !(")?;
+    push_ranges(text, tables, state, false)?;
+    push(text, b")")
 }
 
-/// Writes the loop of a state up to the rule that it accepts.
-fn write_stays<W: Write>(
-    out: &mut W,
+// Appends the loop of a state up to the rule that it accepts.
+fn push_stays(
+    text: &mut Vec<u8>,
     options: &Options,
     tables: &Tables,
     state: u32,
-) -> Result<(), io::Error>
+) -> Result<(), AllocError>
     requires { state < state_count tables.now.machine }
-    ensures ok { OnOk result (Wrote (W.contents out.old) (W.contents out.new)
-        (stays_text options.now tables.now.machine state)) }
-    ensures err { OnErr result (WrotePrefix (W.contents out.old) (W.contents out.new)
-        (stays_text options.now tables.now.machine state)) }
+    ensures { OnOk result (text.new.items
+        ≡ text.old.items ++ direct.stays_text options.now tables.now.machine state) }
 {
     if range_count(tables, state, true) < 3 {
-        return write_own_ranges(out, options, tables, state);
+        return push_own_ranges(text, options, tables, state);
     }
     if range_count(tables, state, false) < 3 {
-        write_other_ranges(out, options, tables, state)
+        push_other_ranges(text, options, tables, state)
     } else {
-        write_numbered_text(out, options, LOOP, state, b"")
+        push_numbered(text, options, LOOP, state, b"")
     }
 }
 
-fn write_loop<W: Write>(
-    out: &mut W,
+fn push_loop(
+    text: &mut Vec<u8>,
     options: &Options,
     tables: &Tables,
     state: u32,
-) -> Result<(), io::Error>
+) -> Result<(), AllocError>
     requires { state < state_count tables.now.machine }
-    ensures ok { OnOk result (Wrote (W.contents out.old) (W.contents out.new)
-        (loop_code options.now tables.now.machine state)) }
-    ensures err { OnErr result (WrotePrefix (W.contents out.old) (W.contents out.new)
-        (loop_code options.now tables.now.machine state)) }
+    ensures { OnOk result (text.new.items
+        ≡ text.old.items ++ direct.loop_code options.now tables.now.machine state) }
 {
-    write_stays(out, options, tables, state)?;
-    write_numbered_text(out, options, LOOP_RULE, rule_word(tables, state), b")\n")
+    push_stays(text, options, tables, state)?;
+    push_numbered(text, options, LOOP_RULE, rule_word(tables, state), b")\n")
 }
 
-fn write_at_end<W: Write>(
-    out: &mut W,
+// Appends the test if the text is at its end, unless it can't be there.
+fn push_end(
+    text: &mut Vec<u8>,
     options: &Options,
     tables: &Tables,
     state: u32,
-) -> Result<(), io::Error>
+) -> Result<(), AllocError>
     requires { state < state_count tables.now.machine }
-    ensures ok { OnOk result (Wrote (W.contents out.old) (W.contents out.new) (numbered options.now
-        AT_END.now (rows.rule_word (accepted_by tables.now.machine state)) (codes ")\n"))) }
-    ensures err { OnErr result (WrotePrefix (W.contents out.old) (W.contents out.new) (numbered
-        options.now AT_END.now (rows.rule_word (accepted_by tables.now.machine state))
-        (codes ")\n"))) }
+    ensures { OnOk result (text.new.items
+        ≡ text.old.items ++ direct.end_code options.now tables.now.machine state) }
 {
-    write_numbered_text(out, options, AT_END, rule_word(tables, state), b")\n")
-}
-
-/// Writes the test whether the text is at its end, where it may be.
-fn write_end<W: Write>(
-    out: &mut W,
-    options: &Options,
-    tables: &Tables,
-    state: u32,
-) -> Result<(), io::Error>
-    requires { state < state_count tables.now.machine }
-    ensures ok { OnOk result (Wrote (W.contents out.old) (W.contents out.new)
-        (end_code options.now tables.now.machine state)) }
-    ensures err { OnErr result (WrotePrefix (W.contents out.old) (W.contents out.new)
-        (end_code options.now tables.now.machine state)) }
-{
-    if only_starts(tables, state) {
+    if is_start(tables, state) && !is_entered(tables, state) {
         Ok(())
     } else {
-        write_at_end(out, options, tables, state)
+        push_numbered(text, options, AT_END, rule_word(tables, state), b")\n")
     }
 }
 
-/// Whether a state never steps to itself.
-fn has_no_loop(tables: &Tables, state: u32) -> bool
-    requires { state < state_count tables.now.machine }
-    ensures { result ≡ (direct.step_count tables.now.machine state (Some state) == 0) }
-{
-    step_count(tables, state, Some(state)) == 0
-}
-
-/// Writes the loop of a state, or else the test whether the text is at its end.
-pub(crate) fn write_begin<W: Write>(
-    out: &mut W,
+/// Appends the loop of a state. A state without one asks if the text is at its end.
+pub(crate) fn push_begin(
+    text: &mut Vec<u8>,
     options: &Options,
     tables: &Tables,
     state: u32,
-) -> Result<(), io::Error>
+) -> Result<(), AllocError>
     requires { state < state_count tables.now.machine }
-    ensures ok { OnOk result (Wrote (W.contents out.old) (W.contents out.new)
-        (begin_code options.now tables.now.machine state)) }
-    ensures err { OnErr result (WrotePrefix (W.contents out.old) (W.contents out.new)
-        (begin_code options.now tables.now.machine state)) }
+    ensures { OnOk result (text.new.items
+        ≡ text.old.items ++ direct.begin_code options.now tables.now.machine state) }
 {
-    if has_no_loop(tables, state) {
-        write_end(out, options, tables, state)
+    if step_count(tables, state, Some(state)) == 0 {
+        push_end(text, options, tables, state)
     } else {
-        write_loop(out, options, tables, state)
+        push_loop(text, options, tables, state)
     }
 }

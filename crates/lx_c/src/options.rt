@@ -1,4 +1,4 @@
-//! What is asked for beside the tables.
+//! The options of a scanner in C.
 
 ghost use Rattle.std.specs.Prelude.{◌≡◌, ◌<◌, Some, [], false, length, slice_index_or, IfOk, IfErr, option_map};
 ghost use Rattle.std.specs.List.{list_all};
@@ -10,7 +10,7 @@ use crate::fault::OptionFault;
 use lx_rules::identifier::{is_digit, is_identifier};
 use std::marker::Model;
 
-/// What a scanner in C is to be like: the prefix of its names, the names of the start conditions where they are known, the file that declares its kinds, if
+/// The options of a scanner in C: the prefix of its names, the names of the start conditions where they are known, the file that declares its kinds, if
 /// there is one, and whether it is code for each state, in the place of rows by classes of bytes.
 #[derive(Drop)]
 pub struct Options {
@@ -54,7 +54,7 @@ fn are_prefix_bytes(text: &[u8]) -> bool
     text.iter().all(|c| is_prefix_byte(*c))
 }
 
-/// Whether the text is a small letter with up to 31 small letters, digits or `_` behind it.
+// Returns true if the text is a small letter and then up to 31 small letters, digits or `_`.
 fn is_prefix(text: &[u8]) -> bool
     ensures { result ≡ specs.is_prefix text.now }
 {
@@ -157,7 +157,7 @@ impl Options {
         &self.prefix
     }
 
-    /// Of how many conditions the names are known: of all or of none.
+    /// Returns the number of conditions whose names are known: all or none.
     pub(crate) fn conditions(&self) -> usize
         ensures { result ≡ length self.now.conditions }
     {
@@ -191,14 +191,14 @@ impl Options {
         }
     }
 
-    /// Whether code for each state is asked for.
+    /// Returns true if code for each state is asked for.
     pub fn is_direct(&self) -> bool
         ensures { result ≡ self.now.direct }
     {
         self.direct
     }
 
-    /// Whether a file declares the kinds.
+    /// Returns true if a file declares the kinds.
     pub fn has_include(&self) -> bool
         ensures { result ≡ specs.has_file self.now.include }
     {

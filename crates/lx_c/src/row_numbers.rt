@@ -1,4 +1,4 @@
-//! The words of rows.
+//! The words of the rows of a scanner in C.
 
 ghost use Rattle.std.specs.Prelude.{◌≡◌, ◌<◌, length};
 ghost use Rattle.lx_automaton.specs.Automata.{accepted_by, class_target, start_of, state_count};
@@ -6,14 +6,14 @@ ghost use Rattle.lx_c.specs.Words as rows;
 
 use lx_tables::{State, Tables};
 
-/// Where the row of a state begins.
+// Returns the place where the row of a state begins.
 fn row_of(tables: &Tables, state: State) -> u64
     ensures { result ≡ rows.row_of tables.now.machine state.0 }
 {
     (u64::from(state.0) + 1) * (u64::from(tables.classes()) + 1)
 }
 
-/// Where the row begins to which a state steps on a class, or 0.
+/// Returns the place of the row to which a state steps on a class, or 0.
 pub fn target_word(tables: &Tables, state: u32, class: u8) -> u64
     requires state { state < state_count tables.now.machine }
     requires class { class < tables.now.machine.width }
@@ -26,7 +26,7 @@ pub fn target_word(tables: &Tables, state: u32, class: u8) -> u64
     }
 }
 
-/// One more than the number of the rule that a state accepts, or 0.
+/// Returns the number of the rule that a state accepts plus 1, or 0.
 pub fn rule_word(tables: &Tables, state: u32) -> u32
     requires { state < state_count tables.now.machine }
     ensures { result ≡ rows.rule_word (accepted_by tables.now.machine state) }
@@ -37,7 +37,7 @@ pub fn rule_word(tables: &Tables, state: u32) -> u32
     }
 }
 
-/// Where the row of the state begins in which a condition starts.
+/// Returns the place of the row of the state in which a condition starts.
 pub fn start_word(tables: &Tables, condition: u16, at_line_begin: bool) -> u64
     requires { condition < length tables.now.machine.starts }
     ensures { result
@@ -46,7 +46,7 @@ pub fn start_word(tables: &Tables, condition: u16, at_line_begin: bool) -> u64
     row_of(tables, tables.start(condition, at_line_begin))
 }
 
-/// What no word of a row is above.
+/// Returns an upper bound of all words of rows.
 pub fn greatest_word(tables: &Tables) -> u64
     ensures { result ≡ rows.greatest_word tables.now }
 {

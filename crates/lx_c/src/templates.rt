@@ -4,13 +4,13 @@
 pub(crate) const FIRST_LINE: &[u8] = br#"/* @: a scanner printed by lx gen --c; form classes. */
 "#;
 
-/// What the declarations begin with.
+/// The beginning of the declarations.
 pub(crate) const GUARD: &[u8] = br#"#ifndef @__H
 #define @__H
 #include <stddef.h>
 "#;
 
-/// What a token can be that is no kind.
+/// The values of a token that are no kind.
 pub(crate) const SPECIAL_KINDS: &[u8] =
     br#"/* May be defined before this file: @__API as static inline, which makes a scanner that is included faster; and @__NO_LINES, so that lines aren't counted,
    the line of each token is 1, and its column how many bytes stand before it plus 1. */
@@ -30,7 +30,7 @@ enum {
     /* a further part of the text is wanted */
     @_MORE = -3"#;
 
-/// What ends the kinds.
+/// The end of the kinds.
 pub(crate) const KINDS_END: &[u8] = br#"
 };
 "#;
@@ -104,20 +104,20 @@ typedef struct @_scanner {
 /// The array of the steps of a rule; its number stands behind.
 pub(crate) const STEP_ARRAY: &[u8] = br#"static const int @__steps_"#;
 
-/// Where the steps of a rule stand; its number stands behind.
+/// The name of the array of a rule's steps; its number follows.
 pub(crate) const STEPS_OF: &[u8] = br#"@__steps_"#;
 
-/// Where the steps of each rule stand.
+/// The array of the places of each rule's steps.
 pub(crate) const STEPS: &[u8] = br#"static const int *const @__steps[] = {
 0,
 "#;
 
-/// What the action of each rule gives at once.
+/// The array of what each rule's action gives at once.
 pub(crate) const ACTIONS: &[u8] = br#"static const int @__action[] = {
 0,
 "#;
 
-/// How many bytes of a match of a rule are left away.
+/// The macro for the number of bytes that are left off a match of a rule.
 pub(crate) const LINE_END: &[u8] = br#"#define @__CUT(rule) @__cut[rule]
 "#;
 
@@ -125,12 +125,12 @@ pub(crate) const LINE_END: &[u8] = br#"#define @__CUT(rule) @__cut[rule]
 pub(crate) const NO_LINE_END: &[u8] = br#"#define @__CUT(rule) 0
 "#;
 
-/// Whether each rule ends with `$`.
+/// The array that says which rules end with `$`.
 pub(crate) const LINE_ENDS: &[u8] = br#"static const unsigned char @__cut[] = {
 0,
 "#;
 
-/// Whether a further token of an action is left.
+/// The macro that says if a further token of an action is left.
 pub(crate) const PENDING: &[u8] = br#"#define @__PENDING s->pending
 "#;
 
@@ -146,7 +146,7 @@ pub(crate) const NAMES: &[u8] = br#"static const char *const @__names[] = {
 pub(crate) const KINDS: &[u8] = br#"static const int @__kinds[] = {
 "#;
 
-/// Whether a match begins at line begin.
+/// The macro that says if a match begins at line begin.
 pub(crate) const LINE_BEGIN: &[u8] = br#"#define @__BEGIN(b) (b)
 "#;
 
@@ -154,7 +154,7 @@ pub(crate) const LINE_BEGIN: &[u8] = br#"#define @__BEGIN(b) (b)
 pub(crate) const NO_LINE_BEGIN: &[u8] = br#"#define @__BEGIN(b) 1
 "#;
 
-/// Behind it the number of classes stands.
+/// The macro for the number of classes, which follows.
 pub(crate) const WIDTH: &[u8] = br#"#define @__WIDTH "#;
 
 /// The class of each byte.
@@ -169,7 +169,7 @@ pub(crate) const ROWS: &[u8] = br#" @__row[] = {
 pub(crate) const STARTS: &[u8] = br#" @__start[] = {
 "#;
 
-/// What ends a scanner.
+/// The end of a scanner.
 pub(crate) const LAST_LINES: &[u8] = br#"
 #undef @__BEGIN
 #undef @__CUT

@@ -36,8 +36,8 @@ impl<'a> Form<'a> {
         }
     }
 
-    /// Returns true only for the form without options.
-    pub(crate) fn is_bare(&self) -> bool
+    /// Returns true if it is the form without options.
+    pub fn is_bare(&self) -> bool
         ensures { IsTrue result → form_view self.now ≡ bare_form }
     {
         self.first == 0

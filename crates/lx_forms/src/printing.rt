@@ -11,7 +11,7 @@ ghost use Rattle.lx_forms.specs.Views.{form_view};
 use crate::form::Form;
 use crate::laws::bare_listings_are_listings;
 use crate::printer::FormPrinter;
-use lx_listing::{Lent, LineSink, LineWrites, list_plan};
+use lx_listing::{Lent, LineSink, LineWrites};
 use lx_piece::{InOrder, KeepItems, Plan, RelayFault, relay_plan};
 use lx_post::{OpenGate, RunFault, scan_made};
 use std::alloc::Global;
@@ -132,10 +132,6 @@ pub fn list_plan_in<T: Threads + Wait + Sync, W: Write>(
     ensures err { OnErr result (AppendsPrefix (W.contents out.old) (W.contents out.new)
         (listing_in (form_view form.now) plan.now)) }
 {
-    if form.is_bare() {
-        bare_listings_are_listings();
-        return list_plan(rt, alloc, plan, workers, writes, out);
-    }
     let sink = Lent { writes, out };
     let (sink, answer) = if workers == 0 {
         print_to(alloc, plan, form, sink)

@@ -8,7 +8,7 @@ ghost use Rattle.lx_forms.specs.Views.{form_view};
 ghost use Rattle.lx_tool.specs.Planning.{AreBytes, ListsBy, ListsByRules, ListsIn, ListsPrefixBy, ListsPrefixIn};
 ghost use Rattle.lx_tool.specs.Tabling.{AreTablesOfText};
 
-use lx_forms::{Form, list_plan_in};
+use lx_forms::{Form, bare_listings_are_listings, list_plan_in};
 use lx_listing::{LineWrites, list_plan};
 use lx_piece::{Input, Plan};
 use lx_post::RunFault;
@@ -72,6 +72,10 @@ pub fn list_files_in<T: Threads + Wait + Sync, W: Write>(
         (map input_view files.items) (W.contents out.old) (W.contents out.new)) }
 {
     let plan = Plan::new(tables, files, per_piece, RUN);
+    if form.is_bare() {
+        bare_listings_are_listings();
+        return list_plan(rt, alloc, &plan, workers, writes, out);
+    }
     list_plan_in(rt, alloc, &plan, workers, form, writes, out)
 }
 

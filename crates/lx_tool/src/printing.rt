@@ -1,24 +1,25 @@
 //! The output of `gen` and `up`: tables in version 2, or a scanner in C.
 
-ghost use Rattle.std.specs.Prelude.{◌≡◌, ◌<◌, ◌⊎◌, None, IfOk, IfErr, IsTrue, OnErr, OnOk, codes, map, option_map, unwrap_or};
+ghost use Rattle.std.specs.Prelude.{◌≡◌, ◌<◌, ◌⊎◌, None, IfOk, IfErr, IsTrue, OnOk, codes, map, option_map, unwrap_or};
 ghost use Rattle.std.specs.Io.KnownBytes.{Keeps};
 ghost use Rattle.lx_c.specs.Options.{named};
 ghost use Rattle.lx_rules.specs.views.Rules.{names_view};
 ghost use Rattle.lx_rules.specs.views.Specs.{spec_view};
-ghost use Rattle.lx_tables.specs.Output.{Wrote, WrotePrefix};
 ghost use Rattle.lx_cli.specs.CommandLine.{plain_c, plain_print};
+ghost use Rattle.lx_tables.specs.Output.{Wrote};
 ghost use Rattle.lx_tool.specs.Commands.{IsPlacingFault};
 ghost use Rattle.lx_tool.specs.Printing.{AreKindsRefused, AreScannerWordsRefused, FailsPrinting, IsToldAs, PlacesTables, WritesTables, are_scanner_words, condition_names, is_in_c, kind_named, kinds_fault, options_by, printed_text};
 ghost use Rattle.lx_tool.specs.Statuses.{status_of};
 
 use crate::failure::{Failure, PrintFault, RequestFault};
+use crate::output::write_text;
 use crate::target::Targets;
-use lx_c::{KindFault, Options, judge, print_c, print_header};
+use lx_c::{KindFault, Options, header_of, judge, scanner_of};
 use lx_cli::{CWords, PrintWords};
 use lx_rules::{Condition, Spec};
 use lx_tables::Tables;
 use std::alloc::{AllocError, Global};
-use std::io::{self, Write};
+use std::io::Write;
 
 // Default prefix of a scanner's names.
 const PREFIX: &str = "lx";
@@ -153,46 +154,46 @@ fn judge_kinds<'a>(
     }
 }
 
-// Writes the text.
-fn write_text<W: Write>(
-    words: &CWords<'_>,
-    options: &Options,
-    tables: &Tables,
-    out: &mut W,
-) -> Result<(), io::Error>
-    ensures ok { OnOk result (Wrote (W.contents out.old) (W.contents out.new)
-        (printed_text (plain_c words.now) options.now tables.now)) }
-    ensures err { OnErr result (WrotePrefix (W.contents out.old) (W.contents out.new)
-        (printed_text (plain_c words.now) options.now tables.now)) }
-{
-    if words.scanner {
-        return print_c(out, tables, options);
-    }
-    if words.header {
-        return print_header(out, tables, options);
-    }
-    tables.print(out)
-}
-
-// Writes the text to a file.
-fn place_text<'a, T: Targets>(
+// Returns the text that the words ask for.
+fn printed_text(
     alloc: Global,
     words: &CWords<'_>,
     options: &Options,
     tables: &Tables,
+) -> Result<Vec<u8>, AllocError>
+    ensures { IfOk result
+        (λ text. text.items ≡ printed_text (plain_c words.now) options.now tables.now) }
+{
+    if words.scanner {
+        return scanner_of(alloc, tables, options);
+    }
+    if words.header {
+        return header_of(alloc, tables, options);
+    }
+    let mut text = Vec::new(alloc);
+    // a list refuses a write only if memory is refused
+    match tables.print(&mut text) {
+        Ok(()) => Ok(text),
+        Err(_) => Err(AllocError),
+    }
+}
+
+fn write_printed<'a, O: Write>(text: &[u8], out: &mut O) -> Result<(), Failure<'a>>
+    ensures ok { OnOk result (Wrote (O.contents out.old) (O.contents out.new) text.now) }
+    ensures err { IfErr result (λ failure. failure ≡ Failure.Output) }
+{
+    write_text(text, out)
+}
+
+fn place_printed<'a, T: Targets>(
     target: &str,
+    text: &[u8],
     targets: &mut T,
 ) -> Result<(), Failure<'a>>
-    ensures ok { OnOk result (T.places targets.old target.now
-        (printed_text (plain_c words.now) options.now tables.now) targets.new) }
+    ensures ok { OnOk result (T.places targets.old target.now text.now targets.new) }
     ensures err { IfErr result IsPlacingFault }
 {
-    let mut text = Vec::new(alloc);
-    // a write to a list fails only for lack of memory
-    if write_text(words, options, tables, &mut text).is_err() {
-        return Err(Failure::Memory);
-    }
-    targets.place(target, &text)?;
+    targets.place(target, text)?;
     Ok(())
 }
 
@@ -215,8 +216,9 @@ pub(crate) fn print_asked<'a, T: Targets, O: Write>(
         failure) }
 {
     judge_kinds(alloc, &words.c, options, tables)?;
+    let text = printed_text(alloc, &words.c, options, tables)?;
     match words.target {
-        Some(target) => place_text(alloc, &words.c, options, tables, target, targets),
-        None => write_text(&words.c, options, tables, out).map_err(|_| Failure::Output),
+        Some(target) => place_printed(target, &text, targets),
+        None => write_printed(&text, out),
     }
 }

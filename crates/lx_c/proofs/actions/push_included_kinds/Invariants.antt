@@ -1,0 +1,10 @@
+use Rattle.std.proofs.Common.{◌≡◌, ◌++◌, ◌+◌, ◌/◌, length, take}
+use Rattle.std.specs.List.{flat_map, range_with_len}
+use Rattle.lx_c.specs.Actions.{kind_entry}
+use Rattle.lx_tables.specs.Model.{kind_at}
+use Rattle.lx_c.specs.Templates.{filled}
+use Rattle.lx_c.specs.declared.templates.TheConstants.{KINDS}
+use Rattle.lx_c.proofs.actions.push_included_kinds.Given as goal
+
+abbrev pub invariant-loop-place : goal.invariant-loop-place
+invariant-loop-place l = l.text.items ≡ (l.fn.text.items ++ filled l.options.prefix KINDS.now) ++ flat_map (λ k. kind_entry (kind_at l.tables k)) (take l.place (range_with_len 0 (length l.tables.kinds)))

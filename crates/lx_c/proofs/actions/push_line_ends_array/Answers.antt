@@ -1,0 +1,14 @@
+use Rattle.std.proofs.Common.{arith, ◌+◌, ◌/◌, length}
+use Rattle.std.specs.Prelude.{codes}
+use Rattle.lx_c.specs.Templates.{filled}
+use Rattle.lx_c.specs.declared.templates.TheConstants.{LINE_ENDS}
+use Rattle.lx_c.specs.Actions.{line_end_entry}
+use Rattle.lx_tables.specs.Model.{rule_at}
+use Rattle.lx_c.proofs.Texts.{text_next, text_between}
+use Rattle.lx_c.proofs.actions.push_line_ends_array.Goals as goal
+
+pub loop-rule-preserved : goal.loop-rule-preserved
+loop-rule-preserved c = text_next (λ r. line_end_entry (rule_at c.args.tables.now r).line_end) _ _ _ (length c.args.tables.now.rules) c.loop-rule.rule (omega arith) c.loop-rule.invariant (rw c.cut.ensures at c.in_ok-push_line_end_entry.ensures)
+
+pub returns : goal.returns
+returns c = text_between c.push.result (λ r. line_end_entry (rule_at c.args.tables.now r).line_end) c.args.text.now.items (filled c.args.options.now.prefix LINE_ENDS.now) (codes "0};\n") c.loop-rule.text.items c.push.new.text.items (length c.args.tables.now.rules) c.loop-rule.rule (omega arith) c.loop-rule.invariant c.push.ensures

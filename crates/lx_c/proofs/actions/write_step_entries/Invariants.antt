@@ -1,8 +1,0 @@
-use Rattle.std.proofs.Common.{take}
-use Rattle.std.specs.List.{flat_map}
-use Rattle.lx_c.specs.Actions.{step_entry}
-use Rattle.lx_tables.specs.Output.{Wrote}
-use Rattle.lx_c.proofs.actions.write_step_entries.Given as goal
-
-abbrev pub invariant-loop-step : goal.invariant-loop-step
-invariant-loop-step g l = Wrote (g.W.Write.contents l.fn.out) (g.W.Write.contents l.out) (flat_map (step_entry l.options l.first l.tables) (take l.step-index l.steps))

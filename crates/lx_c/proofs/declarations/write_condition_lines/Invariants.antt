@@ -1,8 +1,0 @@
-use Rattle.lx_c.specs.Declarations.{condition_line}
-use Rattle.lx_tables.specs.Output.{Wrote}
-use Rattle.std.proofs.Common.{length, take}
-use Rattle.std.specs.List.{flat_map, range_with_len}
-use Rattle.lx_c.proofs.declarations.write_condition_lines.Given as goal
-
-abbrev pub invariant-loop-condition : goal.invariant-loop-condition
-invariant-loop-condition g l = Wrote (g.W.Write.contents l.fn.out) (g.W.Write.contents l.out) (flat_map (condition_line l.options) (take l.condition (range_with_len 0 (length l.options.conditions))))

@@ -1,8 +1,0 @@
-use Rattle.std.proofs.Common.{take}
-use Rattle.lx_c.specs.DirectCode.{case_text}
-use Rattle.lx_tables.specs.Output.{Wrote}
-use Rattle.std.specs.List.{flat_map, range_with_len}
-use Rattle.lx_c.proofs.direct.write_cases.Given as goal
-
-abbrev pub invariant-loop-byte : goal.invariant-loop-byte
-invariant-loop-byte g l = Wrote (g.W.Write.contents l.fn.out) (g.W.Write.contents l.out) (flat_map (case_text l.tables.machine l.class) (take l.byte (range_with_len 0 (256))))

@@ -1,0 +1,11 @@
+use Rattle.std.proofs.Common.{arith, ◌+◌, ◌/◌, length}
+use Rattle.lx_c.specs.Rows.{row_text}
+use Rattle.lx_automaton.specs.Automata.{state_count}
+use Rattle.lx_c.proofs.Texts.{text_next, text_end}
+use Rattle.lx_c.proofs.rows.push_row_lines.Goals as goal
+
+pub loop-state-preserved : goal.loop-state-preserved
+loop-state-preserved c = text_next (row_text c.args.tables.now.machine) _ _ _ (state_count c.args.tables.now.machine) c.loop-state.state (omega arith) c.loop-state.invariant c.in_ok-push_row.ensures
+
+pub returns : goal.returns
+returns c = text_end (row_text c.args.tables.now.machine) _ _ (state_count c.args.tables.now.machine) c.loop-state.state (omega arith) c.loop-state.invariant

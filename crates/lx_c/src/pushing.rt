@@ -1,0 +1,67 @@
+//! Parts of the text of a scanner, appended.
+
+ghost use Rattle.std.specs.Prelude.{◌≡◌, ◌++◌, OnOk};
+ghost use Rattle.lx_c.specs.DirectCode.{numbered};
+ghost use Rattle.lx_c.specs.Templates.{filled, number_then};
+ghost use Rattle.lx_tables.specs.Texts.{number};
+
+use crate::options::Options;
+use itoa::Buffer;
+use std::alloc::AllocError;
+
+/// Appends bytes.
+pub(crate) fn push(text: &mut Vec<u8>, bytes: &[u8]) -> Result<(), AllocError>
+    ensures { OnOk result (text.new.items ≡ text.old.items ++ bytes.now) }
+{
+    text.extend_from_slice(bytes)
+}
+
+/// Appends a number.
+pub(crate) fn push_number(text: &mut Vec<u8>, n: u64) -> Result<(), AllocError>
+    ensures { OnOk result (text.new.items ≡ text.old.items ++ number n) }
+{
+    let mut digits = Buffer::new();
+    push(text, digits.format(n).as_bytes())
+}
+
+/// Appends a number and the bytes after it.
+pub(crate) fn push_number_then(text: &mut Vec<u8>, n: u64, after: &[u8]) -> Result<(), AllocError>
+    ensures { OnOk result (text.new.items ≡ text.old.items ++ number_then n after.now) }
+{
+    push_number(text, n)?;
+    push(text, after)
+}
+
+/// Appends a template, with the prefix for each `@`.
+pub(crate) fn push_filled(
+    text: &mut Vec<u8>,
+    options: &Options,
+    template: &[u8],
+) -> Result<(), AllocError>
+    ensures { OnOk result
+        (text.new.items ≡ text.old.items ++ filled options.now.prefix template.now) }
+{
+    for byte in template {
+        if *byte == b'@' {
+            push(text, options.prefix())?;
+        } else {
+            push(text, &[*byte])?;
+        }
+    }
+    Ok(())
+}
+
+/// Appends a template, a number, and the bytes after it.
+pub(crate) fn push_numbered(
+    text: &mut Vec<u8>,
+    options: &Options,
+    template: &[u8],
+    n: u32,
+    after: &[u8],
+) -> Result<(), AllocError>
+    ensures { OnOk result
+        (text.new.items ≡ text.old.items ++ numbered options.now template.now n after.now) }
+{
+    push_filled(text, options, template)?;
+    push_number_then(text, u64::from(n), after)
+}
