@@ -47,8 +47,8 @@ fn is_same_node(one: &Metadata, other: &Metadata) -> bool {
 
 // Returns true if two files would be made in the same directory and with the same name.
 fn is_same_place<R: AllocGlobal + Files>(rt: &R, path: &str, other: &str) -> io::Result<bool> {
-    let path = behind_links(rt, path)?;
-    let other = behind_links(rt, other)?;
+    let path = path_of_links(rt, path)?;
+    let other = path_of_links(rt, other)?;
     if path.file_name() != other.file_name() {
         return Ok(false);
     }
@@ -65,7 +65,7 @@ fn folder_of(path: Path<'_>) -> &str {
 }
 
 // Returns the path to which a chain of links leads.
-fn behind_links<R: AllocGlobal + Files>(rt: &R, path: &str) -> io::Result<PathBuf> {
+fn path_of_links<R: AllocGlobal + Files>(rt: &R, path: &str) -> io::Result<PathBuf> {
     let mut path = PathBuf::from_str(rt.alloc(), path)?;
     for _ in 0..MOST_LINKS {
         let Ok(next) = fs::read_link(rt, path.as_path()) else {

@@ -15,7 +15,7 @@ const NO_TEXT: i32 = 84;
 
 /// A file that wasn't made, and the system's reason as its number.
 #[derive(Drop)]
-struct Fault {
+struct FailedTarget {
     name: String,
     reason: i32,
 }
@@ -25,7 +25,7 @@ struct Fault {
 pub struct FileTargets<'a, R> {
     rt: &'a R,
     // Last file that wasn't made, if it is known.
-    fault: Option<Fault>,
+    fault: Option<FailedTarget>,
 }
 
 impl<'a, R> FileTargets<'a, R> {
@@ -57,7 +57,7 @@ impl<R: AllocGlobal + Files + RandomSource> Targets for FileTargets<'_, R> {
         is_same_file(self.rt, name, other)
     }
 
-    fn tell_fault<E: Write>(&self, err: &mut E) {
+    fn print_fault<E: Write>(&self, err: &mut E) {
         if let Some(fault) = &self.fault {
             let reason = Error::from_raw_os_error(fault.reason);
             let _ = writeln!(err, "lx: {}: {reason}", fault.name.as_str());
@@ -66,10 +66,10 @@ impl<R: AllocGlobal + Files + RandomSource> Targets for FileTargets<'_, R> {
 }
 
 // Returns a fault with its reason, if the system gave one and no allocation fails.
-fn fault_at<R: AllocGlobal>(rt: &R, name: &str, error: &Error) -> Option<Fault> {
+fn fault_at<R: AllocGlobal>(rt: &R, name: &str, error: &Error) -> Option<FailedTarget> {
     let reason = error.raw_os_error()?;
     let name = String::from_str(rt.alloc(), name).ok()?;
-    Some(Fault { name, reason })
+    Some(FailedTarget { name, reason })
 }
 
 fn fault_of(error: &Error) -> TargetFault {
@@ -137,7 +137,7 @@ fn replace<R: AllocGlobal + Files + RandomSource>(
     bytes: &[u8],
     permissions: Option<Permissions>,
 ) -> io::Result<()> {
-    let new = name_beside(rt, path)?;
+    let new = temporary_name(rt, path)?;
     let new = new.as_str();
     let mut file = File::create_new(rt, new)?;
     let done = match fill(rt, &mut file, new, bytes, permissions) {
@@ -151,7 +151,7 @@ fn replace<R: AllocGlobal + Files + RandomSource>(
 }
 
 // Returns a name in the same directory that can't be guessed.
-fn name_beside<R: AllocGlobal + RandomSource>(rt: &R, path: &str) -> io::Result<String> {
+fn temporary_name<R: AllocGlobal + RandomSource>(rt: &R, path: &str) -> io::Result<String> {
     let mut bytes = [0; 8];
     rt.fill_bytes(&mut bytes)?;
     let mut name = String::from_str(rt.alloc(), path)?;

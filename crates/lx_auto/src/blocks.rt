@@ -7,7 +7,7 @@ ghost use Rattle.lx_auto.specs.NodeViews.{node_view, nodes_view};
 ghost use Rattle.lx_auto.specs.Chunks.{block_nodes};
 
 use crate::block::Block;
-use crate::marking::{behind, nulls_of};
+use crate::marking::{next_position, nulls_of};
 use crate::node::Node;
 use std::alloc::{AllocError, Global};
 
@@ -18,7 +18,7 @@ pub(crate) fn count_leaves(nodes: &[Node]) -> usize
 {
     let mut count = 0;
     for node in nodes {
-        count = behind(node, count);
+        count = next_position(node, count);
     }
     count
 }

@@ -4,6 +4,7 @@ ghost use Rattle.std.specs.Prelude.{◌≡◌, ◌<◌, ◌≤◌, IfOk, IfErr};
 ghost use Rattle.lx_rules.specs.views.Specs.{spec_view};
 ghost use Rattle.lx_rules.specs.Limits.{max_positions, max_reached_sets};
 ghost use Rattle.lx_automaton.specs.Automata.{IsMachine};
+ghost use Rattle.lx_automaton.specs.Equivalence.{HasLiveSteps, IsMinimal};
 ghost use Rattle.lx_auto.specs.Counts.{count_of_spec};
 ghost use Rattle.lx_automaton.specs.Meaning.{IsAutomatonOf};
 ghost use Rattle.lx_automaton.specs.Leading.{AreAllLedTo};
@@ -14,14 +15,15 @@ use crate::drafting::draft_of;
 use crate::explore::explore;
 use crate::fault::BuildFault;
 use crate::spec_positions::positions_of;
-use lx_automaton::{Automaton, Draft, with_byte_classes};
+use lx_automaton::{Automaton, AutomatonDraft, with_byte_classes};
+use lx_minimize::merge;
 use lx_rules::limits::MAX_POSITION_SETS;
 use lx_rules::spec::Spec;
 use lx_rules::well_formed::specs_are_well_formed;
 use std::alloc::Global;
 
 // Builds the automaton over provisional classes.
-fn draft(alloc: Global, spec: &Spec) -> Result<Draft, BuildFault>
+fn draft(alloc: Global, spec: &Spec) -> Result<AutomatonDraft, BuildFault>
     ensures machine { IfOk result (λ a. IsMachine a) }
     ensures automaton { IfOk result (λ a. IsAutomatonOf (spec_view spec.now) a) }
     ensures led_to { IfOk result (λ a. AreAllLedTo a) }
@@ -62,4 +64,23 @@ pub fn build(alloc: Global, spec: &Spec) -> Result<Automaton, BuildFault>
     let draft = draft(alloc, spec)?;
     let automaton = with_byte_classes(alloc, &draft)?;
     Ok(automaton)
+}
+
+/// Builds the automaton of a specification with the least number of states. `build` and `merge` at once.
+///
+/// # Errors
+///
+/// Those of `build`.
+pub fn build_merged(alloc: Global, spec: &Spec) -> Result<Automaton, BuildFault>
+    ensures automaton { IfOk result (λ a. IsAutomatonOf (spec_view spec.now) a) }
+    ensures minimal { IfOk result (λ a. IsMinimal a) }
+    ensures live { IfOk result (λ a. HasLiveSteps a) }
+    ensures few_positions { IfOk result (λ _. count_of_spec (spec_view spec.now) ≤ max_positions) }
+    ensures positions { IfErr result
+        (λ e. e ≡ BuildFault.TooManyPositions → HasTooManyPositions (spec_view spec.now)) }
+    ensures sets { IfErr result
+        (λ e. e ≡ BuildFault.TooManySets → HasTooManySets (spec_view spec.now)) }
+{
+    let built = build(alloc, spec)?;
+    Ok(merge(alloc, &built)?)
 }

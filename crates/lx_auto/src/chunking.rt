@@ -139,7 +139,7 @@ fn outline_growing<'s>(alloc: Global, growing: GrowingChunk<'s>) -> Result<Outli
 }
 
 // Makes the outline of an expression.
-fn outlined<'s>(alloc: Global, chunk: Chunk<'s>) -> Result<Outlined<'s>, AllocError>
+fn outline<'s>(alloc: Global, chunk: Chunk<'s>) -> Result<Outlined<'s>, AllocError>
     ensures { (e : Unfolded) → IsChunkOf chunk.entry e → IfOk result (λ o. IsOutlinedOf o e) }
 {
     match chunk {
@@ -244,7 +244,7 @@ fn join_large<'s>(
     ensures { (a b : Unfolded) → IsOutlinedOf left.entry a → IsChunkOf right.entry b
         → IfOk result (λ p. IsChunkOf p (binary_expression operator a b)) }
 {
-    let second = outlined(alloc, right)?;
+    let second = outline(alloc, right)?;
     let joined = join_outlined(operator, left, second)?;
     Ok(Chunk::Large(joined))
 }
@@ -420,7 +420,7 @@ fn split_by_size<'s>(alloc: Global, nodes: &[Node<'s>]) -> Result<Outlined<'s>, 
 {
     let mut chunks = chunks_of(alloc, nodes)?;
     match pop_chunk(&mut chunks) {
-        Some(chunk) => outlined(alloc, chunk),
+        Some(chunk) => outline(alloc, chunk),
         None => Ok(Outlined {
             outline: Vec::new(alloc),
             blocks: Vec::new(alloc),

@@ -8,8 +8,8 @@ ghost use Rattle.lx_auto.specs.Drafting.{AreAllBelow, AreStartStates, IsDrafted}
 ghost use Rattle.lx_automaton.specs.EncodedOptions.{decoded_option};
 
 use crate::explored::Explored;
-use crate::groups::Groups;
-use lx_automaton::Draft;
+use crate::groups::ByteGroups;
+use lx_automaton::AutomatonDraft;
 use std::alloc::{AllocError, Global};
 
 // Returns the states of the starts, two for each condition.
@@ -87,9 +87,9 @@ fn encoded_targets(
 pub(crate) fn draft_of(
     alloc: Global,
     conditions: usize,
-    groups: &Groups,
+    groups: &ByteGroups,
     explored: &Explored,
-) -> Result<Draft, AllocError>
+) -> Result<AutomatonDraft, AllocError>
     requires conditions { conditions ≤ max_start_conditions }
     requires rules { AreAllBelow explored.now.matched.items max_rules }
     requires sets { AreAllBelow explored.now.targets.items max_reached_sets }
@@ -105,5 +105,5 @@ pub(crate) fn draft_of(
     let accepted = encoded_accepted(alloc, 2 * conditions, &explored.matched)?;
     let targets = encoded_targets(alloc, 2 * conditions, &explored.targets)?;
     let width = groups.representatives.len();
-    Ok(Draft::of(starts, classes, width, accepted, targets))
+    Ok(AutomatonDraft::of(starts, classes, width, accepted, targets))
 }

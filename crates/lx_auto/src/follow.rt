@@ -17,7 +17,7 @@ use std::alloc::{AllocError, Global};
 
 /// The positions after a set of positions, and the rule that it matches.
 #[derive(Drop)]
-pub(crate) struct Found {
+pub(crate) struct Followers {
     /// Positions that can come after those of the set, in ascending order.
     pub(crate) next: Vec<u16>,
     /// Earliest rule of which a position of the set ends a word.
@@ -33,7 +33,7 @@ pub(crate) fn follow(
     set: &[u16],
     marks: &mut Vec<bool>,
     reads: &mut Vec<bool>,
-) -> Result<Found, AllocError>
+) -> Result<Followers, AllocError>
     requires few { length reads.old.items ≤ 65536 }
     requires long { length marks.old.items ≡ length reads.old.items }
     requires clear { (q : ℕ) → plain.flag marks.old.items q ≡ false }
@@ -57,7 +57,7 @@ pub(crate) fn follow(
     let matched = step_rules(alloc, parts, rules_at, set, marks, reads, &mut next)?;
     unmark(marks, set);
     unmark(reads, &next);
-    Ok(Found { next, matched })
+    Ok(Followers { next, matched })
 }
 
 /// Finds the positions with which the rules that are active at a start can begin, in ascending order. `active` has a flag for each rule.

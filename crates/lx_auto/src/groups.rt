@@ -10,7 +10,7 @@ use std::alloc::{AllocError, Global};
 
 /// The groups of bytes, each with one representative byte.
 #[derive(Drop)]
-pub(crate) struct Groups {
+pub(crate) struct ByteGroups {
     /// Group of each byte.
     pub(crate) classes: Vec<u8>,
     /// Representative byte of each group.
@@ -22,17 +22,17 @@ pub(crate) struct Groups {
 }
 
 // Returns all bytes in one group.
-fn one_group(alloc: Global) -> Result<Groups, AllocError> {
+fn one_group(alloc: Global) -> Result<ByteGroups, AllocError> {
     let classes = vec![in alloc; 0u8; 256]?;
     let representatives = vec![in alloc; 0u8; 1]?;
-    Ok(Groups {
+    Ok(ByteGroups {
         classes,
         representatives,
     })
 }
 
 // Returns the representative of a byte's group.
-fn representative(groups: &Groups, byte: u8) -> u8
+fn representative(groups: &ByteGroups, byte: u8) -> u8
     ensures { result
         ≡ representative_of groups.now.classes.items groups.now.representatives.items byte }
 {
@@ -41,7 +41,7 @@ fn representative(groups: &Groups, byte: u8) -> u8
 }
 
 // Returns true if the leaf distinguishes a byte from its representative.
-fn splits(leaf: &Leaf, groups: &Groups) -> bool
+fn splits(leaf: &Leaf, groups: &ByteGroups) -> bool
     ensures { result ≡ false → RespectsGroups (leaf_view leaf.now) groups.now.classes.items
         groups.now.representatives.items }
 {
@@ -55,7 +55,7 @@ fn splits(leaf: &Leaf, groups: &Groups) -> bool
 }
 
 // Returns true if the two bytes are in one group and the leaf doesn't distinguish them.
-fn are_together(leaf: &Leaf, groups: &Groups, first: u8, second: u8) -> bool
+fn are_together(leaf: &Leaf, groups: &ByteGroups, first: u8, second: u8) -> bool
     ensures { result ≡ true
         → AreTogether (leaf_view leaf.now) groups.now.classes.items first second }
 {
@@ -64,7 +64,7 @@ fn are_together(leaf: &Leaf, groups: &Groups, first: u8, second: u8) -> bool
 }
 
 // Finds the first of the new groups to which the byte can go.
-fn find_group(leaf: &Leaf, groups: &Groups, representatives: &[u8], byte: u8) -> Option<usize>
+fn find_group(leaf: &Leaf, groups: &ByteGroups, representatives: &[u8], byte: u8) -> Option<usize>
     ensures within { MatchOption result (Unit {0}) (λ class. class < length representatives.now) }
     ensures together { MatchOption result (Unit {0}) (λ class.
         AreTogether (leaf_view leaf.now) groups.now.classes.items
@@ -81,7 +81,7 @@ fn find_group(leaf: &Leaf, groups: &Groups, representatives: &[u8], byte: u8) ->
 // Returns the new group of a byte: an existing one, or a new one that it begins.
 fn group_for(
     leaf: &Leaf,
-    groups: &Groups,
+    groups: &ByteGroups,
     byte: u8,
     representatives: &mut Vec<u8>,
 ) -> Result<usize, AllocError>
@@ -111,7 +111,7 @@ fn group_for(
 }
 
 // Splits each group by the leaf's bytes.
-fn split(alloc: Global, leaf: &Leaf, groups: &Groups) -> Result<Groups, AllocError>
+fn split(alloc: Global, leaf: &Leaf, groups: &ByteGroups) -> Result<ByteGroups, AllocError>
     ensures { IfOk result (λ new.
         IsSplitBelow (leaf_view leaf.now) groups.now.classes.items new.classes.items
         new.representatives.items 256) }
@@ -122,14 +122,14 @@ fn split(alloc: Global, leaf: &Leaf, groups: &Groups) -> Result<Groups, AllocErr
         let class = group_for(leaf, groups, i as u8, &mut representatives)?;
         classes.push(class as u8)?;
     }
-    Ok(Groups {
+    Ok(ByteGroups {
         classes,
         representatives,
     })
 }
 
 // Splits the groups if the leaf distinguishes bytes of one group.
-fn refine(alloc: Global, leaf: &Leaf, groups: Groups) -> Result<Groups, AllocError>
+fn refine(alloc: Global, leaf: &Leaf, groups: ByteGroups) -> Result<ByteGroups, AllocError>
     ensures own { IfOk result
         (λ new. RespectsGroups (leaf_view leaf.now) new.classes.items new.representatives.items) }
     ensures others { (other : PlainLeaf)
@@ -175,7 +175,7 @@ fn keep<'s>(kept: &mut Vec<Leaf<'s>>, leaf: Leaf<'s>) -> Result<(), AllocError>
 }
 
 /// Groups the bytes that no leaf distinguishes.
-pub(crate) fn groups_of<'s>(alloc: Global, leaves: &[Leaf<'s>]) -> Result<Groups, AllocError>
+pub(crate) fn groups_of<'s>(alloc: Global, leaves: &[Leaf<'s>]) -> Result<ByteGroups, AllocError>
     ensures { IfOk result (λ groups.
         AreGroupsOf (leaves_view leaves.now) groups.classes.items
         groups.representatives.items) }

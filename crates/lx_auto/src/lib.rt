@@ -37,7 +37,7 @@ pub mod spelling;
 mod unfold;
 mod unfolded_rules;
 
-pub use crate::building::build;
+pub use crate::building::{build, build_merged};
 pub use crate::fault::BuildFault;
 pub use crate::spec_positions::count_positions;
 pub use lx_automaton::{Automaton, State};

@@ -43,7 +43,7 @@ pub(crate) fn set_flag(flags: &mut Vec<bool>, i: usize, flag: bool)
     }
 }
 
-// Returns the number of the left child of a node that has `before` nodes before it, and `right` of them in its right child.
+// Returns the number of the left child of a node that has `previous_position` nodes before it, and `right` of them in its right child.
 #[inline(always)]
 fn left_of(before: usize, right: usize) -> usize
     ensures { result ≡ plain.left_of before right }
@@ -90,7 +90,7 @@ fn can_end(nulls: &[bool], marks: &[bool], position: usize, node: &Node, ends: &
 }
 
 /// Returns the next position after a node.
-pub(crate) fn behind(node: &Node, position: usize) -> usize
+pub(crate) fn next_position(node: &Node, position: usize) -> usize
     requires { position < 2 ^ 63 }
     ensures { result ≡ behind_node (node_view node.now) position }
 {
@@ -116,7 +116,7 @@ pub(crate) fn ends_of(
     let mut position = first;
     for node in nodes {
         ends.push(can_end(nulls, marks, position, node, &ends))?;
-        position = behind(node, position);
+        position = next_position(node, position);
     }
     Ok(ends)
 }
@@ -132,7 +132,7 @@ fn pop_flag(stack: &mut Vec<bool>) -> bool
     }
 }
 
-// Pushes the flags of a node's children, which are true if they may be entered. The node has `before` nodes before it.
+// Pushes the flags of a node's children, which are true if they may be entered. The node has `previous_position` nodes before it.
 fn push_entered(
     nulls: &[bool],
     ends: &[bool],
@@ -163,7 +163,7 @@ fn push_entered(
 }
 
 // Returns the last position of those before a node and its own.
-fn before(node: &Node, position: usize) -> usize
+fn previous_position(node: &Node, position: usize) -> usize
     ensures { result ≡ before_node (node_view node.now) position }
 {
     match *node {
@@ -208,7 +208,7 @@ pub(crate) fn mark_reads(
         let own = pop_flag(&mut stack);
         read(node, position, own, reads);
         push_entered(nulls, ends, node, rest, own, &mut stack)?;
-        position = before(node, position);
+        position = previous_position(node, position);
     }
     Ok(())
 }

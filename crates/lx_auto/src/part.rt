@@ -26,7 +26,7 @@ pub(crate) const EMPTY: Part = Part {
 };
 
 // Makes a node above two expressions. Memory never holds as many nodes as would saturate the sum.
-fn above_both(left: Part, right: Part, nullable: bool) -> Part
+fn node_of_two(left: Part, right: Part, nullable: bool) -> Part
     ensures { result ≡ record
         { size = min 18446744073709551615 (left.size + right.size + 1); nullable = nullable; repeated = false } }
 {
@@ -38,7 +38,7 @@ fn above_both(left: Part, right: Part, nullable: bool) -> Part
 }
 
 // Makes a node above one expression.
-fn above(part: Part, nullable: bool, repeated: bool) -> Part
+fn node_of_one(part: Part, nullable: bool, repeated: bool) -> Part
     ensures { result ≡ record
         { size = min 18446744073709551615 (part.size + 1); nullable = nullable; repeated = repeated } }
 {
@@ -74,7 +74,7 @@ pub(crate) fn join(nodes: &mut Vec<Node<'_>>, left: Part, right: Part) -> Result
         return Ok(left);
     }
     nodes.push(Node::Cat(right.size))?;
-    Ok(above_both(left, right, both(left.nullable, right.nullable)))
+    Ok(node_of_two(left, right, both(left.nullable, right.nullable)))
 }
 
 /// Joins the left expression or the right one.
@@ -90,7 +90,7 @@ pub(crate) fn choose(nodes: &mut Vec<Node<'_>>, left: Part, right: Part) -> Resu
         return optional(nodes, left);
     }
     nodes.push(Node::Alt(right.size))?;
-    Ok(above_both(left, right, either(left.nullable, right.nullable)))
+    Ok(node_of_two(left, right, either(left.nullable, right.nullable)))
 }
 
 /// Makes the expression optional.
@@ -102,7 +102,7 @@ pub(crate) fn optional(nodes: &mut Vec<Node<'_>>, part: Part) -> Result<Part, Al
         return Ok(part);
     }
     nodes.push(Node::Optional)?;
-    Ok(above(part, true, part.repeated))
+    Ok(node_of_one(part, true, part.repeated))
 }
 
 /// Repeats the expression one or more times.
@@ -117,5 +117,5 @@ pub(crate) fn one_or_more(nodes: &mut Vec<Node<'_>>, part: Part) -> Result<Part,
         return Ok(part);
     }
     nodes.push(Node::Repeated)?;
-    Ok(above(part, part.nullable, true))
+    Ok(node_of_one(part, part.nullable, true))
 }

@@ -2,7 +2,7 @@
 
 ghost use Rattle.std.specs.Prelude.{◌≤◌};
 
-use crate::groups::Groups;
+use crate::groups::ByteGroups;
 use crate::leaf::Leaf;
 use crate::rule_part::RulePart;
 
@@ -13,6 +13,6 @@ pub(crate) struct PositionTable<'s> {
     /// Number of positions.
     pub(crate) total: usize,
     pub(crate) leaves: Vec<Leaf<'s>>,
-    pub(crate) groups: Groups,
+    pub(crate) groups: ByteGroups,
     pub ghost small: { total ≤ 65536 },
 }

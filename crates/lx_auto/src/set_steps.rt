@@ -24,7 +24,7 @@ const LONG_STRETCH: usize = 1_024;
 const MOST_POSITIONS: usize = 65_536;
 
 // Skips whole unmarked strides. Returns the start of the first stride with a mark, or the end. No flag from `from` up to there is set.
-fn bare_by(marks: &[bool], from: usize, stretch: usize) -> usize
+fn skip_unmarked(marks: &[bool], from: usize, stretch: usize) -> usize
     requires some { 0 < stretch }
     requires few { stretch ≤ 1024 }
     ensures later { from ≤ result }
@@ -51,8 +51,8 @@ fn bare_until(marks: &[bool], from: usize) -> usize
     if from < marks.len() && has_flag(marks, from, STRETCH.min(marks.len() - from)) {
         return from;
     }
-    let far = bare_by(marks, from, LONG_STRETCH);
-    bare_by(marks, far, STRETCH)
+    let far = skip_unmarked(marks, from, LONG_STRETCH);
+    skip_unmarked(marks, far, STRETCH)
 }
 
 // Returns the number of rules from `from` on that can be skipped together, or 0: those before the rule of the range's last position. `rules_at` has

@@ -6,7 +6,7 @@ ghost use Rattle.lx_automaton.specs.Classing.{HasSameColumns, AreNumbersBelow, I
 ghost use Rattle.lx_automaton.specs.EncodedOptions.{machine_of};
 
 use crate::automaton::Automaton;
-use crate::draft::Draft;
+use crate::draft::AutomatonDraft;
 use std::alloc::{AllocError, Global};
 
 // Number of bytes.
@@ -14,7 +14,7 @@ const BYTES: usize = 256;
 
 /// Returns true if one of these states has different steps on the two classes.
 fn are_distinguished(
-    draft: &Draft,
+    draft: &AutomatonDraft,
     class: usize,
     other: usize,
     distinguishing_states: &[usize],
@@ -34,7 +34,7 @@ fn are_distinguished(
 }
 
 /// Returns the first state with different steps on the two classes.
-fn first_distinguishing_state(draft: &Draft, class: usize, other: usize) -> Option<usize>
+fn first_distinguishing_state(draft: &AutomatonDraft, class: usize, other: usize) -> Option<usize>
     requires class { class < draft.now.width }
     requires other { other < draft.now.width }
     ensures { MatchOption result (HasSameColumns draft.now class other)
@@ -51,7 +51,7 @@ fn first_distinguishing_state(draft: &Draft, class: usize, other: usize) -> Opti
 /// Returns true if every state has equal steps on the two classes. Tries the states that distinguish classes first. Each one of them splits the
 /// classes further, so there are at most 255, and seldom are all states tried.
 fn has_same_columns(
-    draft: &Draft,
+    draft: &AutomatonDraft,
     class: usize,
     other: usize,
     distinguishing_states: &mut Vec<usize>,
@@ -73,7 +73,7 @@ fn has_same_columns(
 }
 
 /// Returns the first byte below this one that has the same provisional class.
-fn earlier_byte(draft: &Draft, byte: usize) -> Option<usize>
+fn earlier_byte(draft: &AutomatonDraft, byte: usize) -> Option<usize>
     requires { byte < 256 }
     ensures below { IfSome result (λ b. b < byte) }
     ensures same { IfSome result
@@ -90,7 +90,7 @@ fn earlier_byte(draft: &Draft, byte: usize) -> Option<usize>
 
 /// Returns the number of the representative with the class's column, or the next number if there is none.
 fn number_for(
-    draft: &Draft,
+    draft: &AutomatonDraft,
     representatives: &[u8],
     class: usize,
     distinguishing_states: &mut Vec<usize>,
@@ -115,7 +115,7 @@ fn number_for(
 
 /// Numbers one more byte.
 fn add_byte(
-    draft: &Draft,
+    draft: &AutomatonDraft,
     byte: usize,
     numbers: &mut Vec<u8>,
     representatives: &mut Vec<u8>,
@@ -143,7 +143,7 @@ fn add_byte(
 
 /// Adds the row of a state over the representatives.
 fn add_row(
-    draft: &Draft,
+    draft: &AutomatonDraft,
     representatives: &[u8],
     state: usize,
     encoded: &mut Vec<u16>,
@@ -164,7 +164,11 @@ fn add_row(
 }
 
 /// Makes the rows of all states over the representatives.
-fn rows_over(alloc: Global, draft: &Draft, representatives: &[u8]) -> Result<Vec<u16>, AllocError>
+fn rows_over(
+    alloc: Global,
+    draft: &AutomatonDraft,
+    representatives: &[u8],
+) -> Result<Vec<u16>, AllocError>
     requires classes { (j : ℕ) → j < length representatives.now
         → slice_index representatives.now j < draft.now.width }
     ensures { IfOk result (λ encoded.
@@ -196,13 +200,13 @@ impl Automaton {
             HasSameSteps
             (machine_of starts.items classes.items width accepted.items targets.items) a) }
     {
-        let draft = Draft::of(starts, classes, width, accepted, targets);
+        let draft = AutomatonDraft::of(starts, classes, width, accepted, targets);
         with_byte_classes(alloc, &draft)
     }
 }
 
 /// Makes the automaton with equal steps over byte classes.
-pub fn with_byte_classes(alloc: Global, draft: &Draft) -> Result<Automaton, AllocError>
+pub fn with_byte_classes(alloc: Global, draft: &AutomatonDraft) -> Result<Automaton, AllocError>
     ensures machine { IfOk result (λ a. IsMachine a) }
     ensures classes { IfOk result (λ a. HasByteClasses a) }
     ensures steps { IfOk result (λ a. HasSameSteps draft.now a) }

@@ -9,7 +9,7 @@ use std::marker::Model;
 /// An automaton over at most 256 provisional classes. Every state has equal steps on the bytes of one class, and may also have equal steps on two
 /// classes.
 #[derive(Drop)]
-pub struct Draft {
+pub struct AutomatonDraft {
     pub(crate) starts: Vec<(u32, u32)>,
     pub(crate) classes: Vec<u8>,
     pub(crate) width: usize,
@@ -17,7 +17,7 @@ pub struct Draft {
     pub(crate) targets: Vec<u16>,
 }
 
-impl Model for Draft {
+impl Model for AutomatonDraft {
     ghost Value = { Machine };
 
     ghost view = { λ d.
@@ -28,7 +28,7 @@ impl Model for Draft {
         (machine_of d.starts.items d.classes.items d.width d.accepted.items d.targets.items) };
 }
 
-impl Draft {
+impl AutomatonDraft {
     /// Returns the number of states.
     pub(crate) fn states(&self) -> usize
         ensures count { result ≡ state_count self.now }
@@ -63,13 +63,13 @@ impl Draft {
         width: usize,
         accepted: Vec<u16>,
         targets: Vec<u16>,
-    ) -> Draft
+    ) -> AutomatonDraft
         requires { IsMachine
             (machine_of starts.items classes.items width accepted.items targets.items) }
         ensures { result
             ≡ machine_of starts.items classes.items width accepted.items targets.items }
     {
-        Draft {
+        AutomatonDraft {
             starts,
             classes,
             width,

@@ -9,6 +9,6 @@ mod state_order;
 
 pub use crate::automaton::{Automaton, State};
 pub use crate::classes::with_byte_classes;
-pub use crate::draft::Draft;
+pub use crate::draft::AutomatonDraft;
 pub use crate::reordering::{accepted_of, classes_of, rows_of, starts_of};
 pub use crate::state_order::{StateOrder, state_order_of};

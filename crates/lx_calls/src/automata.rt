@@ -3,7 +3,7 @@
 ghost use Rattle.std.specs.Prelude.{◌<◌, length};
 
 use crate::rows::{tables_of, three_rules};
-use crate::stop::{Stop, printed, say, say_fault, unless_refused};
+use crate::stop::{Stop, end_of_print, say, say_fault, unless_refused};
 use lx_auto::{Automaton, BuildFault, build, merge};
 use lx_fixtures::{THREE_RULES, THREE_RULES_TEXTS, TWO_WORDS};
 use lx_scan::{Item, scan};
@@ -14,13 +14,13 @@ use std::io;
 
 fn print_rule(rt: &impl Print, rule: &Rule) -> Result<(), Stop> {
     let (line, action) = (rule.line, rule.action.as_slice());
-    printed(println!(rt; "line {line} {action:?}"))
+    end_of_print(println!(rt; "line {line} {action:?}"))
 }
 
 fn print_counts(rt: &impl Print, spec: &Spec) -> Result<(), Stop> {
     let (conditions, definitions) = (spec.conditions.len(), spec.definitions.len());
     let kinds = spec.kinds.len();
-    printed(println!(rt; "{conditions} conditions, {definitions} definitions, {kinds} kinds"))
+    end_of_print(println!(rt; "{conditions} conditions, {definitions} definitions, {kinds} kinds"))
 }
 
 fn print_spec(rt: &impl Print, spec: &Spec) -> Result<(), Stop> {
@@ -53,11 +53,11 @@ pub(crate) fn reads_spec(rt: &impl Print, alloc: Global) -> Result<(), Stop> {
 }
 
 fn print_accepted(rt: &impl Print, byte: u8, rule: Option<u16>) -> Result<(), Stop> {
-    printed(println!(rt; "behind {byte}: rule {rule:?}"))
+    end_of_print(println!(rt; "behind {byte}: rule {rule:?}"))
 }
 
 fn print_no_step(rt: &impl Print, byte: u8) -> Result<(), Stop> {
-    printed(println!(rt; "no step on {byte}"))
+    end_of_print(println!(rt; "no step on {byte}"))
 }
 
 /// Prints what is accepted after one byte.
@@ -74,7 +74,7 @@ fn print_step(rt: &impl Print, automaton: &Automaton, byte: u8) -> Result<(), St
 /// Prints the number of states, and what is accepted after one byte.
 pub(crate) fn print_automaton(rt: &impl Print, automaton: &Automaton) -> Result<(), Stop> {
     let (conditions, states) = (automaton.conditions(), automaton.states());
-    printed(println!(rt; "{conditions} conditions, {states} states"))?;
+    end_of_print(println!(rt; "{conditions} conditions, {states} states"))?;
     if conditions == 0 {
         return Ok(());
     }
@@ -128,7 +128,7 @@ pub(crate) fn merges(rt: &impl Print, alloc: Global) -> Result<(), Stop> {
 
 /// Prints tables in their second text.
 pub(crate) fn print_tables(rt: &impl Print, tables: &Tables) -> Result<(), Stop> {
-    printed(tables.print(&mut io::writer(rt)))
+    end_of_print(tables.print(&mut io::writer(rt)))
 }
 
 fn print_made(rt: &impl Print, made: Result<Tables, AllocError>) -> Result<(), Stop> {
@@ -174,7 +174,7 @@ pub(crate) fn reads_tables(rt: &impl Print, alloc: Global) -> Result<(), Stop> {
 }
 
 fn print_item(rt: &impl Print, item: &Item) -> Result<(), Stop> {
-    printed(println!(rt; "{item:?}"))
+    end_of_print(println!(rt; "{item:?}"))
 }
 
 fn print_items(rt: &impl Print, items: &[Item]) -> Result<(), Stop> {

@@ -5,7 +5,7 @@ ghost use Rattle.lx_piece.specs.Cutting.{IsCutterOf};
 ghost use Rattle.lx_piece.specs.Plans.{IsPlan};
 
 use crate::rows::{FILE_OF_TWO_WORDS, plan_of};
-use crate::stop::{Stop, printed, refuse_from_here, say, say_fault, unless_refused};
+use crate::stop::{Stop, end_of_print, refuse_from_here, say, say_fault, unless_refused};
 use lx_fixtures::{NO_RULES, THREE_RULES, piece};
 use lx_piece::{Collector, Cutter, Mark, Piece, Plan, Refused, Why};
 use std::alloc::{AllocError, Global};
@@ -13,7 +13,7 @@ use std::alloc::{AllocError, Global};
 pub(crate) fn print_piece(rt: &impl Print, piece: &Piece) -> Result<(), Stop> {
     let (file, number, mark) = (piece.file, piece.number, piece.mark);
     let len = piece.items.as_slice().len();
-    printed(println!(rt; "file {file} piece {number} {mark:?} {len} items"))
+    end_of_print(println!(rt; "file {file} piece {number} {mark:?} {len} items"))
 }
 
 fn print_next_once(rt: &impl Print, plan: &Plan, cutter: &mut Cutter) -> Result<(), Stop>
@@ -92,7 +92,7 @@ fn print_collector(rt: &impl Print, collector: &Collector) -> Result<(), Stop>
 {
     let (closed, cut) = (collector.is_closed(0), collector.is_cut(0));
     let all = collector.all_closed();
-    printed(println!(rt; "closed {closed}, cut {cut}, all closed {all}"))
+    end_of_print(println!(rt; "closed {closed}, cut {cut}, all closed {all}"))
 }
 
 fn make_collector_once(rt: &impl Print, alloc: Global) -> Result<(), Stop> {
@@ -193,7 +193,7 @@ pub(crate) fn offers(rt: &impl Print, alloc: Global) -> Result<(), Stop> {
 /// The three pieces of a cut file.
 const CUT_FILE: &[(u64, Mark)] = &[(2, Mark::Cut), (0, Mark::More), (1, Mark::More)];
 
-fn prepared(alloc: Global) -> Result<Collector, Stop>
+fn prepare(alloc: Global) -> Result<Collector, Stop>
     ensures { IfOk result (λ collector. length collector.buffers ≡ 1) }
 {
     let Ok(mut collector) = Collector::new(alloc, 1, 1) else {
@@ -209,7 +209,7 @@ fn prepared(alloc: Global) -> Result<Collector, Stop>
 
 /// Calls `deliver`, `is_closed`, `is_cut` and `all_closed` on a collector that holds the three pieces of a cut file.
 pub(crate) fn delivers(rt: &impl Print, alloc: Global) -> Result<(), Stop> {
-    let mut collector = prepared(alloc)?;
+    let mut collector = prepare(alloc)?;
     refuse_from_here(alloc);
     match print_collector(rt, &collector) {
         Ok(()) => print_delivered(rt, &mut collector),

@@ -1,6 +1,6 @@
 //! Reads patterns and substitutes, and prints them in full: `(a b)` is a and then b, and an interval follows what it repeats.
 
-use crate::stop::{Stop, printed, refuse_from_here, say, say_fault, unless_refused};
+use crate::stop::{Stop, end_of_print, refuse_from_here, say, say_fault, unless_refused};
 use lx_ere::{ByteSet, EreFault, Expr, Pattern, pattern_end, read_pattern, read_substitute};
 use std::alloc::Global;
 
@@ -8,11 +8,11 @@ use std::alloc::Global;
 const TEXTS: &[&str] = &["ab{2}", "a({D}{1,2})", "\"\\01\"\"1\"", "\\x41*"];
 
 fn print_text(rt: &impl Print, text: &str) -> Result<(), Stop> {
-    printed(print!(rt; "{text}"))
+    end_of_print(print!(rt; "{text}"))
 }
 
 fn print_byte(rt: &impl Print, byte: u8) -> Result<(), Stop> {
-    printed(print!(rt; "{byte:02x}"))
+    end_of_print(print!(rt; "{byte:02x}"))
 }
 
 fn print_set(rt: &impl Print, set: &ByteSet) -> Result<(), Stop> {
@@ -26,13 +26,13 @@ fn print_set(rt: &impl Print, set: &ByteSet) -> Result<(), Stop> {
 }
 
 fn print_interval(rt: &impl Print, low: u8, high: Option<u8>) -> Result<(), Stop> {
-    printed(print!(rt; "{{{low},{high:?}}}"))
+    end_of_print(print!(rt; "{{{low},{high:?}}}"))
 }
 
 fn print_name(rt: &impl Print, name: &[u8]) -> Result<(), Stop> {
     print_text(rt, "name")?;
     for byte in name {
-        printed(print!(rt; " {byte:02x}"))?;
+        end_of_print(print!(rt; " {byte:02x}"))?;
     }
     Ok(())
 }
@@ -64,7 +64,7 @@ fn print_expr(rt: &impl Print, expr: &Expr) -> Result<(), Stop> {
 }
 
 fn print_anchors(rt: &impl Print, begin: bool, end: bool) -> Result<(), Stop> {
-    printed(print!(rt; "{begin} {end} "))
+    end_of_print(print!(rt; "{begin} {end} "))
 }
 
 /// Prints an expression and ends the line.
@@ -125,7 +125,7 @@ pub(crate) fn reads_substitutes(rt: &impl Print, alloc: Global) -> Result<(), St
 }
 
 fn print_member(rt: &impl Print, byte: u8, has: bool) -> Result<(), Stop> {
-    printed(println!(rt; "{byte} {has}"))
+    end_of_print(println!(rt; "{byte} {has}"))
 }
 
 fn print_members(rt: &impl Print, expr: &Expr) -> Result<(), Stop> {
@@ -150,7 +150,7 @@ pub(crate) fn has(rt: &impl Print, alloc: Global) -> Result<(), Stop> {
 const LINES: &[&str] = &["a b", "\"a b\" c", "[ ]\\ x\ty", "abc"];
 
 fn print_end(rt: &impl Print, end: usize) -> Result<(), Stop> {
-    printed(println!(rt; "{end}"))
+    end_of_print(println!(rt; "{end}"))
 }
 
 /// Calls `pattern_end` with quotes, brackets and escapes.

@@ -3,7 +3,7 @@
 ghost use Rattle.lx_piece.specs.Plans.{IsPlan};
 
 use crate::rows::{FILE_OF_TWO_WORDS, plan_of};
-use crate::stop::{Stop, printed, refuse_from_here, say_fault, unless_refused};
+use crate::stop::{Stop, end_of_print, refuse_from_here, say_fault, unless_refused};
 use lx_fixtures::{THREE_RULES, take_first};
 use lx_piece::{Plan, Reader, ReaderFault};
 use lx_post::RunFault;
@@ -30,7 +30,7 @@ fn print_part_to(rt: &impl Print, written: &[u8]) -> io::Result<()> {
 
 /// Prints what was written before an allocation failed.
 pub(crate) fn print_part(rt: &impl Print, written: &[u8]) -> Result<(), Stop> {
-    printed(print_part_to(rt, written))
+    end_of_print(print_part_to(rt, written))
 }
 
 /// Returns memory for a listing.
@@ -48,7 +48,7 @@ pub(crate) fn print_written(
     ended: Result<(), RunFault>,
 ) -> Result<(), Stop> {
     match ended {
-        Ok(()) => printed(io::writer(rt).write_all(written)),
+        Ok(()) => end_of_print(io::writer(rt).write_all(written)),
         Err(RunFault::Memory) => Err(Stop::Refused),
         Err(fault) => say_fault(rt, &fault),
     }
@@ -87,7 +87,7 @@ fn faults_over<W: Write + Drop>(alloc: Global, plan: &Plan, out: W) -> Result<u6
 
 fn print_faults(rt: &impl Print, faults: Result<u64, Stop>) -> Result<(), Stop> {
     match faults {
-        Ok(faults) => printed(println!(rt; "{faults} faults")),
+        Ok(faults) => end_of_print(println!(rt; "{faults} faults")),
         Err(stop) => Err(stop),
     }
 }
@@ -131,7 +131,7 @@ fn print_taken(
     taken: Result<(), ReaderFault>,
 ) -> Result<(), Stop> {
     match taken {
-        Ok(()) => printed(io::writer(rt).write_all(written)),
+        Ok(()) => end_of_print(io::writer(rt).write_all(written)),
         Err(ReaderFault::Memory) => Err(Stop::Refused),
         Err(fault) => say_fault(rt, &fault),
     }

@@ -7,7 +7,7 @@ ghost use Rattle.lx_post.specs.Posted.{IsSendPassOf, IsTakePassOf, fresh_send};
 
 use crate::collecting::print_piece;
 use crate::rows::{FILE_OF_TWO_WORDS, plan_of};
-use crate::stop::{Stop, printed, refuse_from_here, say, unless_refused};
+use crate::stop::{Stop, end_of_print, refuse_from_here, say, unless_refused};
 use lx_fixtures::{THREE_FILES, THREE_RULES, first_piece};
 use lx_piece::{Arrivals, Piece, Plan};
 use lx_post::{ClaimSeat, Claims, Note, Post, PostArrivals, SendPass, TakePass, finish};
@@ -22,7 +22,7 @@ fn make_claims_once(rt: &impl Print, alloc: Global) -> Result<(), Stop> {
 }
 
 fn print_count(rt: &impl Print, count: usize, what: &str) -> Result<(), Stop> {
-    printed(println!(rt; "{count} {what}"))
+    end_of_print(println!(rt; "{count} {what}"))
 }
 
 /// Calls `Claims::new` for three files and two workers.
@@ -54,7 +54,7 @@ fn print_drawn(rt: &impl Print, claims: &Claims, seat: &mut ClaimSeat) -> Result
     ensures { IsSeatOf claims.now seat.new }
 {
     let drawn = claims.draw(seat);
-    printed(println!(rt; "{drawn:?}"))
+    end_of_print(println!(rt; "{drawn:?}"))
 }
 
 /// Draws once with each of two seats.
@@ -95,7 +95,7 @@ fn settle(rt: &impl Print, claims: Claims, seats: Vec<ClaimSeat>) -> Result<(), 
     requires { All (λ seat. IsSeatOf claims seat) seats.items }
 {
     match claims.settle(seats) {
-        Ok(files) => printed(println!(rt; "{files} files")),
+        Ok(files) => end_of_print(println!(rt; "{files} files")),
         Err(_) => say(rt, "unsettled"),
     }
 }
@@ -149,7 +149,7 @@ pub(crate) fn draws(rt: &impl Print, alloc: Global) -> Result<(), Stop> {
 }
 
 fn print_sent(rt: &impl Print, worker: u8, piece: &Piece) -> Result<(), Stop> {
-    printed(println!(rt; "of worker {worker}"))?;
+    end_of_print(println!(rt; "of worker {worker}"))?;
     print_piece(rt, piece)
 }
 
@@ -160,7 +160,9 @@ fn print_note(rt: &impl Print, note: &Note) -> Result<(), Stop> {
             worker,
             files,
             fault,
-        } => { printed(println!(rt; "end of worker {worker} behind {files} files, {fault:?}")) }
+        } => {
+            end_of_print(println!(rt; "end of worker {worker} behind {files} files, {fault:?}"))
+        }
     }
 }
 
@@ -282,7 +284,7 @@ fn send_and_arrive<R: Print + Wait>(
     let mut arrivals = PostArrivals::new(rt, post, take);
     let is_last = print_arrivals(rt, &mut arrivals)?;
     let (_take, fault) = arrivals.into_pass();
-    printed(println!(rt; "no arrival behind it {is_last}, {fault:?}"))
+    end_of_print(println!(rt; "no arrival behind it {is_last}, {fault:?}"))
 }
 
 /// Makes a post of one worker, with a send pass and the pass that takes.

@@ -6,7 +6,7 @@ ghost use Rattle.lx_piece.specs.Plans.{files_of, kinds_of};
 use crate::automata::{automaton_of, print_automaton, print_tables};
 use crate::collecting::print_piece;
 use crate::rows::{plan_of, tables_of, three_rules};
-use crate::stop::{Stop, printed, refuse_from_here, say};
+use crate::stop::{Stop, end_of_print, refuse_from_here, say};
 use lx_fixtures::{NO_RULES, THREE_RULES, TWO_WORDS, among_strangers};
 use lx_piece::{Arrivals, Cutter, Input, ListArrivals, Plan};
 use lx_scan::{Item, Place, next_match};
@@ -24,12 +24,12 @@ pub(crate) fn reads_automaton(rt: &impl Print, alloc: Global) -> Result<(), Stop
 }
 
 fn print_rule(rt: &impl Print, cut: bool, steps: &[Step]) -> Result<(), Stop> {
-    printed(println!(rt; "{cut} {steps:?}"))
+    end_of_print(println!(rt; "{cut} {steps:?}"))
 }
 
 fn print_rules(rt: &impl Print, tables: &Tables) -> Result<(), Stop> {
     let rules = tables.rules();
-    printed(println!(rt; "{rules} rules"))?;
+    end_of_print(println!(rt; "{rules} rules"))?;
     for rule in 0..rules {
         print_rule(rt, tables.cut(rule), tables.steps(rule))?;
     }
@@ -37,12 +37,12 @@ fn print_rules(rt: &impl Print, tables: &Tables) -> Result<(), Stop> {
 }
 
 fn print_kind(rt: &impl Print, kind: &[u8]) -> Result<(), Stop> {
-    printed(println!(rt; "{kind:?}"))
+    end_of_print(println!(rt; "{kind:?}"))
 }
 
 fn print_kinds(rt: &impl Print, tables: &Tables) -> Result<(), Stop> {
     let kinds = tables.kinds();
-    printed(println!(rt; "{kinds} kinds"))?;
+    end_of_print(println!(rt; "{kinds} kinds"))?;
     for number in 0..kinds {
         print_kind(rt, tables.kind(number))?;
     }
@@ -50,11 +50,11 @@ fn print_kinds(rt: &impl Print, tables: &Tables) -> Result<(), Stop> {
 }
 
 fn print_class(rt: &impl Print, byte: u8, class: u8) -> Result<(), Stop> {
-    printed(println!(rt; "{byte} is of class {class}"))
+    end_of_print(println!(rt; "{byte} is of class {class}"))
 }
 
 fn print_state(rt: &impl Print, number: u32, rule: Option<u16>) -> Result<(), Stop> {
-    printed(println!(rt; "leads to {number}, which accepts {rule:?}"))
+    end_of_print(println!(rt; "leads to {number}, which accepts {rule:?}"))
 }
 
 /// Prints the class of a byte, and its target from the start.
@@ -71,7 +71,7 @@ fn print_step(rt: &impl Print, tables: &Tables, byte: u8) -> Result<(), Stop>
 fn print_steps(rt: &impl Print, tables: &Tables) -> Result<(), Stop> {
     let (conditions, states) = (tables.conditions(), tables.states());
     let classes = tables.classes();
-    printed(println!(rt; "{conditions} conditions, {states} states, {classes} classes"))?;
+    end_of_print(println!(rt; "{conditions} conditions, {states} states, {classes} classes"))?;
     if conditions == 0 {
         return Ok(());
     }
@@ -105,7 +105,7 @@ pub(crate) fn prints(rt: &impl Print, alloc: Global) -> Result<(), Stop> {
 pub(crate) fn prints_first(rt: &impl Print, alloc: Global) -> Result<(), Stop> {
     let tables = tables_of(alloc, THREE_RULES)?;
     refuse_from_here(alloc);
-    printed(tables.print_first(&mut io::writer(rt)))
+    end_of_print(tables.print_first(&mut io::writer(rt)))
 }
 
 /// Prints the first match of a text in each condition.
@@ -116,7 +116,7 @@ fn print_match(rt: &impl Print, tables: &Tables, text: &[u8]) -> Result<(), Stop
             ..Place::begin()
         };
         let found = next_match(tables, text, place);
-        printed(println!(rt; "{found:?}"))?;
+        end_of_print(println!(rt; "{found:?}"))?;
     }
     Ok(())
 }
@@ -149,7 +149,7 @@ fn print_plan(rt: &impl Print, plan: &Plan) -> Result<(), Stop>
 {
     let count = plan.files();
     let (bytes, kind) = (plan.bytes(0), plan.kind(0));
-    printed(println!(rt; "{count} file, {bytes:?}, {kind:?}"))
+    end_of_print(println!(rt; "{count} file, {bytes:?}, {kind:?}"))
 }
 
 /// Calls `Plan::new`, its readers, and `Cutter::new`.
@@ -203,5 +203,5 @@ pub(crate) fn lends(rt: &impl Print, alloc: Global) -> Result<(), Stop> {
     };
     refuse_from_here(alloc);
     let text = token.text(TWO_WORDS);
-    printed(println!(rt; "{text:?}"))
+    end_of_print(println!(rt; "{text:?}"))
 }

@@ -4,31 +4,31 @@ ghost use Rattle.std.specs.Prelude.{◌≡◌, IfOk, length, replicate};
 ghost use Rattle.lx_piece.specs.Plans.{files_of};
 
 use crate::rows::plan_of;
-use crate::stop::{Stop, printed, say_fault, unless_refused};
+use crate::stop::{Stop, end_of_print, say_fault, unless_refused};
 use lx_fixtures::{NO_RULES, among_strangers};
 use lx_piece::{ListArrivals, Piece, Plan, Reader, ReaderFault, RelayFault, Reply, relay};
 use std::alloc::{AllocError, Global};
 
 /// A reader that counts the pieces of each file.
 #[derive(Drop)]
-struct Tally<'a> {
+struct PieceTally<'a> {
     plan: &'a Plan,
     counts: Vec<u64>,
     ghost each_count: { length counts.items ≡ files_of plan.now },
 }
 
 /// Returns a tally that has counted nothing.
-fn fresh_tally(alloc: Global, plan: &Plan) -> Result<Tally<'_>, AllocError>
+fn fresh_tally(alloc: Global, plan: &Plan) -> Result<PieceTally<'_>, AllocError>
     ensures plan { IfOk result (λ tally. tally.plan.now ≡ plan.now) }
     ensures counts { IfOk result (λ tally. tally.counts.items ≡ replicate (files_of plan.now) 0) }
 {
-    Ok(Tally {
+    Ok(PieceTally {
         plan,
         counts: vec![in alloc; 0; plan.files() as usize]?,
     })
 }
 
-impl<'a> Reader for Tally<'a> {
+impl<'a> Reader for PieceTally<'a> {
     ghost use Rattle.std.specs.Prelude.{ℕ};
 
     ghost plan = { λ s. s.plan.now };
@@ -72,16 +72,16 @@ fn relay_once(alloc: Global, plan: &Plan) -> Result<Relayed, Stop>
     };
     let mut arrivals = ListArrivals::new(plan, pieces);
     let answer = relay(alloc, plan, &mut arrivals, &mut tally);
-    let Tally { plan: _, counts } = tally;
+    let PieceTally { plan: _, counts } = tally;
     Ok(Relayed { answer, counts })
 }
 
 fn print_counts(rt: &impl Print, counts: &[u64]) -> Result<(), Stop> {
-    printed(println!(rt; "taken {counts:?}"))
+    end_of_print(println!(rt; "taken {counts:?}"))
 }
 
 fn print_reply(rt: &impl Print, reply: Reply) -> Result<(), Stop> {
-    printed(println!(rt; "{reply:?}"))
+    end_of_print(println!(rt; "{reply:?}"))
 }
 
 fn print_replies(rt: &impl Print, replies: &[Reply]) -> Result<(), Stop> {

@@ -1,6 +1,6 @@
 //! Calls of sources of files.
 
-use crate::stop::{Stop, printed, say_fault, unless_refused};
+use crate::stop::{Stop, end_of_print, say_fault, unless_refused};
 use lx_fixtures::TWO_WORDS;
 use lx_tool::{ListSources, SourceFault, Sources};
 use std::alloc::Global;
@@ -12,7 +12,7 @@ fn read_second(rt: &impl Print, alloc: Global, sources: &mut ListSources<'_>) ->
     match sources.read(alloc, "words") {
         Ok(input) => {
             let (bytes, cut) = (input.bytes.as_slice(), input.cut);
-            printed(println!(rt; "{bytes:?}, cut {cut}"))
+            end_of_print(println!(rt; "{bytes:?}, cut {cut}"))
         }
         Err(SourceFault::Memory) => Err(Stop::Refused),
         Err(fault) => say_fault(rt, &fault),

@@ -16,7 +16,7 @@ pub(crate) enum Stop {
 }
 
 /// Returns the end of a driver whose last act was to print.
-pub(crate) fn printed(ended: io::Result<()>) -> Result<(), Stop> {
+pub(crate) fn end_of_print(ended: io::Result<()>) -> Result<(), Stop> {
     match ended {
         Ok(()) => Ok(()),
         Err(_) => Err(Stop::Output),
@@ -25,12 +25,12 @@ pub(crate) fn printed(ended: io::Result<()>) -> Result<(), Stop> {
 
 /// Prints a line.
 pub(crate) fn say(rt: &impl Print, line: &str) -> Result<(), Stop> {
-    printed(println!(rt; "{line}"))
+    end_of_print(println!(rt; "{line}"))
 }
 
 /// Prints why a call failed, if it wasn't for lack of memory.
 pub(crate) fn say_fault(rt: &impl Print, fault: &impl Display) -> Result<(), Stop> {
-    printed(println!(rt; "{fault}"))
+    end_of_print(println!(rt; "{fault}"))
 }
 
 /// Returns the end of a driver that made its call once. If an allocation failed, reports that and returns None: the call is then made once more.

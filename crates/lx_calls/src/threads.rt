@@ -4,7 +4,7 @@ ghost use Rattle.std.specs.Prelude.{◌<◌, ◌≤◌};
 
 use crate::listings::{print_part, print_written, room_for_listing};
 use crate::rows::plan_of;
-use crate::stop::{Stop, printed, refuse_from_here, say};
+use crate::stop::{Stop, end_of_print, refuse_from_here, say};
 use lx_fixtures::{THREE_FILES, THREE_RULES};
 use lx_piece::Plan;
 use lx_post::{Gate, MeetingGate, OpenGate, RunFault, scan_all};
@@ -73,5 +73,5 @@ pub(crate) fn meets<R: Print + Threads>(rt: &R, alloc: Global) -> Result<(), Sto
         },
     );
     let met = gate.met();
-    printed(println!(rt; "met {met}"))
+    end_of_print(println!(rt; "met {met}"))
 }

@@ -9,14 +9,14 @@ use Rattle.lx_tables.specs.Model.{AreTablesOf, Table}
 use Rattle.lx_reach.specs.Chosen.{AreFlagsOf, IsEverChosenBy}
 use Rattle.lx_reach.specs.Entered.{IsEntered}
 use Rattle.lx_check.specs.Verdicts.{IsFinding}
-use Rattle.lx_check.specs.declared.finding.Finding.{Finding}
+use Rattle.lx_check.specs.declared.text_fault.TextFault.{TextFault}
 use Rattle.lx_check.specs.declared.report.Accepted.{Accepted}
 use Rattle.lx_check.specs.declared.report.Counts.{Counts}
 use Rattle.lx_check.specs.declared.report.Report.{Report}
 use Rattle.lx_check.specs.declared.report.Report.TheVariants as report
 
 -- The first of the findings is one of the text.
-abbrev pub BeginsWithFinding : List ℕ → List Finding → Type 0
+abbrev pub BeginsWithFinding : List ℕ → List TextFault → Type 0
 BeginsWithFinding text [] = ⊥
 BeginsWithFinding text (finding ∷ more) = IsFinding text finding
 

@@ -77,7 +77,12 @@ fn looked_up(
 }
 
 // Makes the report on a specification that has tables.
-fn accepted(alloc: Global, text: &[u8], spec: Spec, tables: Tables) -> Result<Accepted, AllocError>
+fn report_accepted(
+    alloc: Global,
+    text: &[u8],
+    spec: Spec,
+    tables: Tables,
+) -> Result<Accepted, AllocError>
     requires tables { AreTablesOf (spec_view spec) tables }
     requires few_positions { count_of_spec (spec_view spec) ≤ max_positions }
     ensures spec { IfOk result (λ accepted. spec_view accepted.spec ≡ spec_view spec) }
@@ -116,7 +121,7 @@ pub fn check(alloc: Global, text: &[u8], most: usize) -> Result<Report, AllocErr
         Err(fault) => return Ok(Report::Refused(findings_from(alloc, text, fault, most)?)),
     };
     match tables_of(alloc, &spec)? {
-        Ok(tables) => Ok(Report::Accepted(accepted(alloc, text, spec, tables)?)),
+        Ok(tables) => Ok(Report::Accepted(report_accepted(alloc, text, spec, tables)?)),
         Err(finding) => Ok(Report::Refused(too_large(alloc, text, finding, most)?)),
     }
 }

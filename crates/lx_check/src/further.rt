@@ -5,8 +5,8 @@ ghost use Rattle.lx_spec.specs.Whole.{IsFault};
 ghost use Rattle.lx_check.specs.Verdicts.{SaysTooLarge};
 ghost use Rattle.lx_check.specs.Further.{AreFindings, HasFurther};
 
-use crate::without::without;
-use crate::{Finding, read};
+use crate::without::mask_fault;
+use crate::{TextFault, read};
 use lx_spec::SpecFault;
 use std::alloc::{AllocError, Global};
 
@@ -16,11 +16,11 @@ pub(crate) const MAX_READ_BYTES: usize = 2_000_000;
 // Appends the faults that are found in a text, if there is one. Finds at most `most` faults, and reads at most `left` bytes.
 fn with_further(
     alloc: Global,
-    findings: Vec<Finding>,
+    findings: Vec<TextFault>,
     rest: Option<Vec<u8>>,
     most: usize,
     left: usize,
-) -> Result<Vec<Finding>, AllocError>
+) -> Result<Vec<TextFault>, AllocError>
     ensures { IfOk result (λ found.
         HasFurther most left (option_map (λ text. text.items) rest) findings.items
         found.items) }
@@ -38,9 +38,9 @@ fn with_further(
         let Err(fault) = read(alloc, &text)? else {
             return Ok(findings);
         };
-        findings.push(Finding::Specification(fault))?;
+        findings.push(TextFault::Specification(fault))?;
         left -= text.len();
-        rest = without(alloc, &text, fault)?;
+        rest = mask_fault(alloc, &text, fault)?;
     }
     Ok(findings)
 }
@@ -52,16 +52,16 @@ pub(crate) fn findings_from(
     text: &[u8],
     fault: SpecFault,
     most: usize,
-) -> Result<Vec<Finding>, AllocError>
+) -> Result<Vec<TextFault>, AllocError>
     requires { IsFault text.now fault }
     ensures { IfOk result (λ findings. AreFindings most text.now findings.items) }
 {
     let mut findings = Vec::new(alloc);
-    findings.push(Finding::Specification(fault))?;
+    findings.push(TextFault::Specification(fault))?;
     if most < 2 {
         return Ok(findings);
     }
-    let rest = without(alloc, text, fault)?;
+    let rest = mask_fault(alloc, text, fault)?;
     let left = MAX_READ_BYTES.saturating_sub(text.len());
     with_further(alloc, findings, rest, most.saturating_sub(1), left)
 }
@@ -70,9 +70,9 @@ pub(crate) fn findings_from(
 pub(crate) fn too_large(
     alloc: Global,
     text: &[u8],
-    finding: Finding,
+    finding: TextFault,
     most: usize,
-) -> Result<Vec<Finding>, AllocError>
+) -> Result<Vec<TextFault>, AllocError>
     requires { SaysTooLarge text.now finding }
     ensures { IfOk result (λ findings. AreFindings most text.now findings.items) }
 {

@@ -2,14 +2,14 @@
 #![tactic(auto)]
 
 pub mod checking;
-pub mod finding;
 mod further;
 pub mod report;
 mod takers;
+pub mod text_fault;
 pub mod verdict;
 pub mod without;
 
 pub use crate::checking::check;
-pub use crate::finding::Finding;
 pub use crate::report::{Accepted, Counts, Report};
+pub use crate::text_fault::TextFault;
 pub use crate::verdict::{read, tables_of};

@@ -1,6 +1,6 @@
 //! Reports on the text of a specification.
 
-use crate::Finding;
+use crate::TextFault;
 use lx_reach::Takers;
 use lx_spec::Spec;
 use lx_tables::Tables;
@@ -39,6 +39,6 @@ pub struct Accepted {
 #[derive(Drop)]
 pub enum Report {
     /// The text is rejected for these faults. There is at least one, and the first one comes first.
-    Refused(Vec<Finding>),
+    Refused(Vec<TextFault>),
     Accepted(Accepted),
 }

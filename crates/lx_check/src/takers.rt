@@ -7,7 +7,7 @@ use lx_reach::{Takers, takers_of};
 use lx_rules::limits::MAX_SPECIFICATION_BYTES;
 use lx_spec::Code;
 use lx_spec::parsed_sections::RawRule;
-use lx_spec::rule_line::Prefix;
+use lx_spec::rule_line::RulePrefix;
 use lx_spec::section::read_sections;
 use lx_tables::Tables;
 use std::alloc::{AllocError, Global};
@@ -37,7 +37,7 @@ fn text_with(
 ) -> Result<Vec<u8>, AllocError> {
     let mut made = Vec::new(alloc);
     push_lines_before(&mut made, text, first)?;
-    if let Prefix::Listed(names) = rule.prefix {
+    if let RulePrefix::Listed(names) = rule.prefix {
         made.extend_from_slice(b"<")?;
         made.extend_from_slice(names)?;
         made.extend_from_slice(b">")?;

@@ -2,16 +2,14 @@
 
 ghost use Rattle.std.specs.Prelude.{◌≡◌, ◌<◌, ◌≤◌, ℕ, List, IfOk, IfErr};
 ghost use Rattle.lx_auto.specs.Counts.{count_of_spec};
-ghost use Rattle.lx_automaton.specs.Meaning.{IsAutomatonOf};
 ghost use Rattle.lx_rules.specs.views.Specs.{spec_view};
 ghost use Rattle.lx_rules.specs.Limits.{max_positions};
 ghost use Rattle.lx_spec.specs.Whole.{IsFault, IsRead};
-ghost use Rattle.lx_auto.specs.TooLarge.{HasTooManyPositions, HasTooManySets};
 ghost use Rattle.lx_tables.specs.Model.{AreTablesOf};
 ghost use Rattle.lx_check.specs.Verdicts.{IsTooLarge};
 
-use crate::finding::Finding;
-use lx_auto::{Automaton, BuildFault, build, merge};
+use crate::text_fault::TextFault;
+use lx_auto::{BuildFault, build_merged};
 use lx_spec::{Code, Spec, SpecFault, read_spec};
 use lx_tables::Tables;
 use std::alloc::{AllocError, Global};
@@ -33,31 +31,18 @@ pub fn read(alloc: Global, text: &[u8]) -> Result<Result<Spec, SpecFault>, Alloc
     }
 }
 
-// Makes the merged automaton of a specification.
-fn automaton_of(alloc: Global, spec: &Spec) -> Result<Automaton, BuildFault>
-    ensures automaton { IfOk result (λ a. IsAutomatonOf (spec_view spec.now) a) }
-    ensures few_positions { IfOk result (λ _. count_of_spec (spec_view spec.now) ≤ max_positions) }
-    ensures positions { IfErr result
-        (λ e. e ≡ BuildFault.TooManyPositions → HasTooManyPositions (spec_view spec.now)) }
-    ensures sets { IfErr result
-        (λ e. e ≡ BuildFault.TooManySets → HasTooManySets (spec_view spec.now)) }
-{
-    let built = build(alloc, spec)?;
-    Ok(merge(alloc, &built)?)
-}
-
 /// Makes the tables of a specification, or returns the fault that it is too large. Err: an allocation failed.
-pub fn tables_of(alloc: Global, spec: &Spec) -> Result<Result<Tables, Finding>, AllocError>
+pub fn tables_of(alloc: Global, spec: &Spec) -> Result<Result<Tables, TextFault>, AllocError>
     ensures ok { IfOk result
         (λ made. IfOk made (λ tables. AreTablesOf (spec_view spec.now) tables)) }
     ensures few_positions { IfOk result
         (λ made. IfOk made (λ _. count_of_spec (spec_view spec.now) ≤ max_positions)) }
     ensures err { IfOk result (λ made. IfErr made (IsTooLarge (spec_view spec.now))) }
 {
-    match automaton_of(alloc, spec) {
+    match build_merged(alloc, spec) {
         Ok(automaton) => Ok(Ok(Tables::of(alloc, spec, &automaton)?)),
-        Err(BuildFault::TooManyPositions) => Ok(Err(Finding::TooManyPositions)),
-        Err(BuildFault::TooManySets) => Ok(Err(Finding::TooManySets)),
+        Err(BuildFault::TooManyPositions) => Ok(Err(TextFault::TooManyPositions)),
+        Err(BuildFault::TooManySets) => Ok(Err(TextFault::TooManySets)),
         Err(BuildFault::Memory) => Err(AllocError),
     }
 }

@@ -18,7 +18,7 @@ use lx_spec::{Code, SpecFault};
 use std::alloc::{AllocError, Global};
 
 // Returns the replacement of a line.
-fn line_instead<'a>(
+fn replacement_of_line<'a>(
     this: &'a [u8],
     first: usize,
     end: usize,
@@ -47,7 +47,7 @@ fn push_line(
     ensures { OnOk result
         (made.new.items ≡ made.old.items ++ specs.line_instead this.now first end number line.now) }
 {
-    made.extend_from_slice(line_instead(this, first, end, number, line))?;
+    made.extend_from_slice(replacement_of_line(this, first, end, number, line))?;
     Ok(())
 }
 
@@ -197,7 +197,11 @@ fn without_declaration(alloc: Global, text: &[u8], line: u32) -> Result<Option<V
 }
 
 /// Masks a fault of a text. Returns `None` if the fault hides the rest of the text. Err: an allocation failed.
-pub fn without(alloc: Global, text: &[u8], fault: SpecFault) -> Result<Option<Vec<u8>>, AllocError>
+pub fn mask_fault(
+    alloc: Global,
+    text: &[u8],
+    fault: SpecFault,
+) -> Result<Option<Vec<u8>>, AllocError>
     requires { IsFault text.now fault }
     ensures { IfOk result
         (λ rest. option_map (λ made. made.items) rest ≡ specs.without text.now fault) }

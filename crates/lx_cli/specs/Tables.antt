@@ -6,11 +6,11 @@ use Rattle.clap.specs.declared.builder.value_parser.ValueParser.TheVariants.{Sig
 use Rattle.clap.specs.Lexer.{usize_max}
 use Rattle.clap.specs.Words.{App, Rule, new_app, new_rule, with_rule, with_subcommand}
 use Rattle.lx_cli.specs.declared.commands.Argument.{Argument}
-use Rattle.lx_cli.specs.declared.commands.Form.{Form}
-use Rattle.lx_cli.specs.declared.commands.Form.TheVariants as form
+use Rattle.lx_cli.specs.declared.commands.ArgumentForm.{ArgumentForm}
+use Rattle.lx_cli.specs.declared.commands.ArgumentForm.TheVariants as form
 use Rattle.lx_cli.specs.declared.commands.Name.{Name}
 use Rattle.lx_cli.specs.declared.commands.Name.TheVariants as name
-use Rattle.lx_cli.specs.declared.commands.Numbers.{Numbers}
+use Rattle.lx_cli.specs.declared.commands.NumberRange.{NumberRange}
 use Rattle.lx_cli.specs.declared.commands.Subcommand.{Subcommand}
 
 abbrev pub named_rule : Name → Rule → Rule
@@ -18,14 +18,14 @@ named_rule (name.Short letter) rule = record rule { short = Some letter }
 named_rule (name.Long word) rule = record rule { long = Some word.now }
 
 -- a number between bounds, with or without a default
-abbrev pub numbered_rule : Numbers → Rule → Rule
+abbrev pub numbered_rule : NumberRange → Rule → Rule
 numbered_rule numbers rule = record rule {
   parser = Some (Signed numbers.least numbers.most);
   defaults = elim numbers.default [ Some text ↦ text.now ∷ [] | None ↦ [] ];
 }
 
 -- an argument with this form
-abbrev pub formed_rule : Form → Rule → Rule
+abbrev pub formed_rule : ArgumentForm → Rule → Rule
 formed_rule (form.Flag name) rule = record (named_rule name rule) { action = Some SetTrue }
 formed_rule (form.Value name _) rule = record (named_rule name rule) { value_names = 1 }
 formed_rule (form.Values name _) rule = record (named_rule name rule) { value_names = 1; action = Some Append }

@@ -6,7 +6,7 @@ ghost use Rattle.clap.specs.declared.builder.Command.TheViews.{out-Command as fi
 ghost use Rattle.lx_cli.specs.CommandLine.{bare_app, lx_app};
 ghost use Rattle.lx_cli.specs.Tables.{argument_rule, named_rule, numbered_rule, with_arguments, with_subcommands};
 
-use crate::commands::{Argument, COMMANDS, Form, Name, Numbers, Subcommand};
+use crate::commands::{Argument, ArgumentForm, COMMANDS, Name, NumberRange, Subcommand};
 use crate::version::VERSION;
 use clap::builder::ValueParser;
 use clap::{Arg, ArgAction, Command};
@@ -74,18 +74,23 @@ fn arg_of<'a>(alloc: Global, argument: &Argument) -> Arg<'a>
 {
     let arg = Arg::new(alloc, argument.id).help(argument.help);
     match &argument.form {
-        Form::Flag(name) => named(arg, name).action(ArgAction::SetTrue),
-        Form::Value(name, value) => named(arg, name).value_name(value),
-        Form::Values(name, value) => named(arg, name).value_name(value).action(ArgAction::Append),
-        Form::Number(name, value, numbers) => numbered(named(arg, name).value_name(value), numbers),
-        Form::Needed => arg.required(true),
-        Form::Optional => arg,
-        Form::Several => arg.num_args(1..).action(ArgAction::Append),
+        ArgumentForm::Flag(name) => with_name(arg, name).action(ArgAction::SetTrue),
+        ArgumentForm::Value(name, value) => with_name(arg, name).value_name(value),
+        ArgumentForm::Values(name, value) => with_name(arg, name)
+            .value_name(value)
+            .action(ArgAction::Append),
+        ArgumentForm::Number(name, value, numbers) => with_number(
+            with_name(arg, name).value_name(value),
+            numbers,
+        ),
+        ArgumentForm::Needed => arg.required(true),
+        ArgumentForm::Optional => arg,
+        ArgumentForm::Several => arg.num_args(1..).action(ArgAction::Append),
     }
 }
 
 // Makes an argument an option with this name.
-fn named<'a>(arg: Arg<'a>, name: &Name) -> Arg<'a>
+fn with_name<'a>(arg: Arg<'a>, name: &Name) -> Arg<'a>
     ensures rule { rule_of result ≡ named_rule name.now (rule_of arg.entry) }
     ensures local { result.global ≡ arg.entry.global }
 {
@@ -96,7 +101,7 @@ fn named<'a>(arg: Arg<'a>, name: &Name) -> Arg<'a>
 }
 
 // Makes an argument take a number.
-fn numbered<'a>(arg: Arg<'a>, numbers: &Numbers) -> Arg<'a>
+fn with_number<'a>(arg: Arg<'a>, numbers: &NumberRange) -> Arg<'a>
     requires { (rule_of arg).defaults ≡ [] }
     ensures rule { rule_of result ≡ numbered_rule numbers.now (rule_of arg.entry) }
     ensures local { result.global ≡ arg.entry.global }

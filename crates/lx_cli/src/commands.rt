@@ -10,14 +10,14 @@ pub(crate) enum Name {
 }
 
 /// The range of numbers that an option takes, and its default.
-pub(crate) struct Numbers {
+pub(crate) struct NumberRange {
     pub least: i64,
     pub most: i64,
     pub default: Option<&'static str>,
 }
 
 /// The form of a command's argument.
-pub(crate) enum Form {
+pub(crate) enum ArgumentForm {
     /// An option without a value.
     Flag(Name),
     /// An option with a value, which the help calls by this name.
@@ -25,7 +25,7 @@ pub(crate) enum Form {
     /// An option with a value, allowed any number of times.
     Values(Name, &'static str),
     /// An option with a number as its value, allowed once.
-    Number(Name, &'static str, Numbers),
+    Number(Name, &'static str, NumberRange),
     /// A required positional argument.
     Needed,
     /// An optional positional argument.
@@ -37,7 +37,7 @@ pub(crate) enum Form {
 /// An argument of a command. `clap` reads it back by its id.
 pub(crate) struct Argument {
     pub id: &'static str,
-    pub form: Form,
+    pub form: ArgumentForm,
     pub help: &'static str,
 }
 
@@ -51,78 +51,78 @@ pub(crate) struct Subcommand {
 // Names of files.
 const SPEC: Argument = Argument {
     id: "SPEC",
-    form: Form::Needed,
+    form: ArgumentForm::Needed,
     help: "The specification; - is standard input",
 };
 
 const TABLES: Argument = Argument {
     id: "TABLES",
-    form: Form::Needed,
+    form: ArgumentForm::Needed,
     help: "The tables, in either version of their text; - is standard input",
 };
 
 const RULES: Argument = Argument {
     id: "RULES",
-    form: Form::Needed,
+    form: ArgumentForm::Needed,
     help: "The specification, or tables, whose text begins with lx-tables; - is standard input",
 };
 
 const FLEX: Argument = Argument {
     id: "FLEX",
-    form: Form::Needed,
+    form: ArgumentForm::Needed,
     help: "The specification for flex; - is standard input",
 };
 
 const FILES: Argument = Argument {
     id: "FILE",
-    form: Form::Several,
+    form: ArgumentForm::Several,
     help: "The files, in the order of the listing; - is standard input, of which nothing is listed before its end",
 };
 
 // Options of `gen` and `up`.
 const TARGET: Argument = Argument {
     id: "target",
-    form: Form::Value(Name::Short('o'), "FILE"),
+    form: ArgumentForm::Value(Name::Short('o'), "FILE"),
     help: "Writes the text to FILE, all of it or nothing; - is standard output",
 };
 
 const SCANNER: Argument = Argument {
     id: "c",
-    form: Form::Flag(Name::Long("c")),
+    form: ArgumentForm::Flag(Name::Long("c")),
     help: "Prints a scanner in C in the place of tables",
 };
 
 const HEADER: Argument = Argument {
     id: "header",
-    form: Form::Flag(Name::Long("header")),
+    form: ArgumentForm::Flag(Name::Long("header")),
     help: "Prints the declarations of that scanner",
 };
 
 const PREFIX: Argument = Argument {
     id: "prefix",
-    form: Form::Value(Name::Long("prefix"), "P"),
+    form: ArgumentForm::Value(Name::Long("prefix"), "P"),
     help: "What the names of that scanner begin with, and else lx",
 };
 
 const INCLUDE: Argument = Argument {
     id: "include",
-    form: Form::Value(Name::Long("include"), "FILE"),
+    form: ArgumentForm::Value(Name::Long("include"), "FILE"),
     help: "The file that declares the kinds of that scanner, as bison writes one",
 };
 
 const DIRECT: Argument = Argument {
     id: "direct",
-    form: Form::Flag(Name::Long("direct")),
+    form: ArgumentForm::Flag(Name::Long("direct")),
     help: "Makes it of code for each state, which is faster, in the place of rows",
 };
 
 // Options of `scan` and `run`.
 const SCAN_WORKERS: Argument = Argument {
     id: "workers",
-    form: Form::Number(
+    form: ArgumentForm::Number(
         Name::Short('j'),
         "N",
-        Numbers {
+        NumberRange {
             least: 1,
             most: MAX_WORKERS as i64,
             default: Some("4"),
@@ -133,10 +133,10 @@ const SCAN_WORKERS: Argument = Argument {
 
 const RUN_WORKERS: Argument = Argument {
     id: "workers",
-    form: Form::Number(
+    form: ArgumentForm::Number(
         Name::Short('j'),
         "N",
-        Numbers {
+        NumberRange {
             least: 1,
             most: MAX_WORKERS as i64,
             default: None,
@@ -147,10 +147,10 @@ const RUN_WORKERS: Argument = Argument {
 
 const ITEMS: Argument = Argument {
     id: "items",
-    form: Form::Number(
+    form: ArgumentForm::Number(
         Name::Short('b'),
         "K",
-        Numbers {
+        NumberRange {
             least: 1,
             most: MAX_ITEMS as i64,
             default: Some("256"),
@@ -161,34 +161,34 @@ const ITEMS: Argument = Argument {
 
 const NAMES: Argument = Argument {
     id: "names",
-    form: Form::Flag(Name::Long("names")),
+    form: ArgumentForm::Flag(Name::Long("names")),
     help: "Prints the names of files in the place of their numbers",
 };
 
 const ONLY: Argument = Argument {
     id: "only",
-    form: Form::Value(Name::Long("only"), "KIND,.."),
+    form: ArgumentForm::Value(Name::Long("only"), "KIND,.."),
     help: "Prints tokens of these kinds alone, by name or number, and - for echoes",
 };
 
 const NO_TEXT: Argument = Argument {
     id: "no-text",
-    form: Form::Flag(Name::Long("no-text")),
+    form: ArgumentForm::Flag(Name::Long("no-text")),
     help: "Prints no texts",
 };
 
 const FORMAT: Argument = Argument {
     id: "format",
-    form: Form::Value(Name::Long("format"), "FORMAT"),
+    form: ArgumentForm::Value(Name::Long("format"), "FORMAT"),
     help: "Prints lines of fields (text), as without it, or a JSON object a line (json)",
 };
 
 const FIRST: Argument = Argument {
     id: "first",
-    form: Form::Number(
+    form: ArgumentForm::Number(
         Name::Long("first"),
         "N",
-        Numbers {
+        NumberRange {
             least: 0,
             most: u32::MAX as i64,
             default: Some("0"),
@@ -199,35 +199,35 @@ const FIRST: Argument = Argument {
 
 const LIST: Argument = Argument {
     id: "list",
-    form: Form::Value(Name::Long("files-from"), "LIST"),
+    form: ArgumentForm::Value(Name::Long("files-from"), "LIST"),
     help: "A file that names further files, one a line, behind those that are words",
 };
 
 const ZEROS: Argument = Argument {
     id: "zeros",
-    form: Form::Flag(Name::Short('0')),
+    form: ArgumentForm::Flag(Name::Short('0')),
     help: "The names in LIST are separated by bytes 0",
 };
 
 // Options of `check`.
 const QUIET: Argument = Argument {
     id: "quiet",
-    form: Form::Flag(Name::Short('q')),
+    form: ArgumentForm::Flag(Name::Short('q')),
     help: "Prints the findings alone, without lines of the source and counts",
 };
 
 const WARNINGS: Argument = Argument {
     id: "warnings",
-    form: Form::Values(Name::Short('W'), "NAME"),
+    form: ArgumentForm::Values(Name::Short('W'), "NAME"),
     help: "Switches a warning on, or off as no-NAME; all stands for each, and with error they are errors; lx explain warning lists them",
 };
 
 const MOST: Argument = Argument {
     id: "most",
-    form: Form::Number(
+    form: ArgumentForm::Number(
         Name::Long("most"),
         "N",
-        Numbers {
+        NumberRange {
             least: 1,
             most: MOST_TOLD as i64,
             default: Some("20"),
@@ -238,38 +238,38 @@ const MOST: Argument = Argument {
 
 const JSON: Argument = Argument {
     id: "json",
-    form: Form::Flag(Name::Long("json")),
+    form: ArgumentForm::Flag(Name::Long("json")),
     help: "Prints the findings as SARIF 2.1.0",
 };
 
 // Arguments of `explain`, `show` and `import`.
 const WORD: Argument = Argument {
     id: "WORD",
-    form: Form::Optional,
+    form: ArgumentForm::Optional,
     help: "The code or the cause; without it, all are listed",
 };
 
 const ALL: Argument = Argument {
     id: "all",
-    form: Form::Flag(Name::Long("all")),
+    form: ArgumentForm::Flag(Name::Long("all")),
     help: "Prints automata of more than 200 states too",
 };
 
 const ACTIONS: Argument = Argument {
     id: "actions",
-    form: Form::Value(Name::Short('c'), "FILE"),
+    form: ArgumentForm::Value(Name::Short('c'), "FILE"),
     help: "The file that gets the actions in C",
 };
 
 const KINDS_PREFIX: Argument = Argument {
     id: "prefix",
-    form: Form::Value(Name::Long("prefix"), "P"),
+    form: ArgumentForm::Value(Name::Long("prefix"), "P"),
     help: "What kinds begin with in that file, in small letters, and else lx",
 };
 
 const LOSSY: Argument = Argument {
     id: "lossy",
-    form: Form::Flag(Name::Long("lossy")),
+    form: ArgumentForm::Flag(Name::Long("lossy")),
     help: "Leaves out what can't be brought over, in the place of a refusal",
 };
 

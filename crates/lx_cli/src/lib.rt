@@ -10,6 +10,6 @@ mod version;
 pub use reading::{plain_words_ask, read_words};
 pub use request::{
     ALONE, CWords, CheckWords, FormWords, ITEMS, ImportWords, ListRequest, ListWords, MOST_TOLD,
-    PrintWords, Refusal, Request, ShowWords, TOLD,
+    PrintWords, Request, ShowWords, TOLD, WordsFault,
 };
 pub use version::VERSION;

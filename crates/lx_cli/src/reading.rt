@@ -9,7 +9,7 @@ ghost use Rattle.lx_cli.specs.CommandLine.{IsFault, IsTold, PlainWordsAsk, asked
 use crate::app::command;
 use crate::request::{
     ALONE, CWords, CheckWords, FormWords, ITEMS, ImportWords, ListRequest, ListWords, MOST_TOLD,
-    PrintWords, Refusal, Request, ShowWords, TOLD,
+    PrintWords, Request, ShowWords, TOLD, WordsFault,
 };
 use clap::error::ErrorKind;
 use clap::{ArgMatches, Error};
@@ -20,19 +20,19 @@ use std::alloc::{AllocError, Global};
 const WORKERS: u8 = 4;
 
 /// Returns the request of the arguments. The first argument is the program's name.
-pub fn read_words(alloc: Global, words: &[String]) -> Result<Request<'_>, Refusal>
+pub fn read_words(alloc: Global, words: &[String]) -> Result<Request<'_>, WordsFault>
     ensures asked { IfOk result (λ request. asked_by (words_of words.now) ≡ asked_as request) }
-    ensures refused { (text : Error) → result ≡ Err (Refusal.Words text)
+    ensures refused { (text : Error) → result ≡ Err (WordsFault.Words text)
         → asked_by (words_of words.now) ≡ None }
     // The help and the version are answers of `clap`. All other errors reject the arguments.
     ensures told { (text : Error) → result ≡ Ok (Request.Told text)
         → IsTold (kind_of text) × IsFault (words_of words.now) (kind_of text) }
-    ensures faulty { (text : Error) → result ≡ Err (Refusal.Words text)
+    ensures faulty { (text : Error) → result ≡ Err (WordsFault.Words text)
         → (kind_of text ≢ ErrorKind.DisplayHelp) × (kind_of text ≢ ErrorKind.DisplayVersion)
         × IsFault (words_of words.now) (kind_of text) }
     ensures stored { length words.now ≤ 1 → result ≡ Ok Request.Stored }
     // A failed allocation is no fault of the arguments.
-    ensures words { (text : Error) → result ≡ Err (Refusal.Words text)
+    ensures words { (text : Error) → result ≡ Err (WordsFault.Words text)
         → kind_of text ≢ ErrorKind.OutOfMemory }
 {
     if words.len() <= 1 {
@@ -43,8 +43,8 @@ pub fn read_words(alloc: Global, words: &[String]) -> Result<Request<'_>, Refusa
         Ok(matches) => Ok(request_of(alloc, &matches)?),
         Err(error) => match error.kind() {
             ErrorKind::DisplayHelp | ErrorKind::DisplayVersion => Ok(Request::Told(error)),
-            ErrorKind::OutOfMemory => Err(Refusal::Memory),
-            _ => Err(Refusal::Words(error)),
+            ErrorKind::OutOfMemory => Err(WordsFault::Memory),
+            _ => Err(WordsFault::Words(error)),
         },
     }
 }

@@ -157,20 +157,20 @@ pub struct FormWords<'a> {
 
 /// Reason why the arguments form no request.
 #[derive(Drop)]
-pub enum Refusal {
+pub enum WordsFault {
     /// The arguments don't form a command line, for the reason in the text.
     Words(Error),
     /// An allocation failed.
     Memory,
 }
 
-impl From<AllocError> for Refusal {
+impl From<AllocError> for WordsFault {
     ghost use Rattle.std.specs.Prelude.{◌≡◌};
-    ghost use Rattle.lx_cli.specs.declared.request.Refusal.{Refusal};
+    ghost use Rattle.lx_cli.specs.declared.request.WordsFault.{WordsFault};
 
-    ghost from_gives = { λ _ refusal. refusal ≡ Refusal.Memory };
+    ghost from_gives = { λ _ refusal. refusal ≡ WordsFault.Memory };
 
-    fn from(_error: AllocError) -> Refusal {
-        Refusal::Memory
+    fn from(_error: AllocError) -> WordsFault {
+        WordsFault::Memory
     }
 }

@@ -1,7 +1,7 @@
 -- Lines of a text, counted from 1, and places in them.
 use Rattle.std.specs.Prelude.{ℕ, zero, suc, ◌≡◌, ◌+◌, ◌-◌, ◌<◌, ◌≤◌, Bool, not, nat_eq, List, length, drop}
 use Rattle.std.specs.List.{prefix_len}
-use Rattle.lx_diagnose.specs.declared.places.Place.{Place}
+use Rattle.lx_diagnose.specs.declared.places.TextPlace.{TextPlace}
 
 abbrev pub is_no_newline : ℕ → Bool
 is_no_newline c = not (nat_eq c 10)
@@ -25,6 +25,6 @@ line_start n text = length text - length (behind_lines (n - 1) text)
 
 -- A place whose column is known is in its line, and its column is that of its first byte, counted from 1. The position directly after the last byte
 -- is still in the line.
-pub record IsInText (text : List ℕ) (place : Place) : Type 0 where
+pub record IsInText (text : List ℕ) (place : TextPlace) : Type 0 where
   pub within : place.column + place.width ≤ line_len place.line text + 1
   pub column : 0 < place.column → line_start place.line text + place.column ≡ place.start + 1

@@ -7,7 +7,7 @@ use crate::found::{Found, found_at, found_byte, found_named};
 use crate::places::{Span, between, one_byte};
 use crate::scan::{begins_at, find, is_at, is_blank_at, is_digit_at, is_listed, next_blank, part};
 use crate::sectioning::{RuleExtent, RulePrefix};
-use crate::words::{PlacedWords, behind_word_before, failing_word, place_at, words_of};
+use crate::words::{PlacedWords, end_of_previous, failing_word, place_at, words_of};
 use lx_spec::action::{Action, Statement, Turn, read_action, turn_at};
 use lx_spec::word::Word;
 use std::alloc::{AllocError, Global};
@@ -182,7 +182,7 @@ fn missing_semicolon(words: &PlacedWords, number: usize) -> Option<Span> {
         let behind = number.saturating_add(count);
         if may_end_before(words, behind) && lacks_semicolon(words, number, count) {
             return Some(Span {
-                start: behind_word_before(words, behind),
+                start: end_of_previous(words, behind),
                 len: 0,
             });
         }

@@ -28,7 +28,7 @@ struct Group {
 
 // The effect of a lexeme on the groups.
 #[derive(Clone, Copy)]
-enum Kind {
+enum LexemeEffect {
     Unit,
     Repeat,
     Interval,
@@ -39,20 +39,20 @@ enum Kind {
 
 // The open groups, the innermost last, and a flag that is true if an interval was read last.
 #[derive(Drop)]
-struct Groups {
+struct OpenGroups {
     outer: Vec<Group>,
     innermost: Group,
     behind_interval: bool,
 }
 
-fn kind_of(lexeme: &Lexeme) -> Kind {
+fn kind_of(lexeme: &Lexeme) -> LexemeEffect {
     match lexeme {
-        Lexeme::Set(_) | Lexeme::Quoted(_, _) | Lexeme::Name(_) => Kind::Unit,
-        Lexeme::Interval(_, _) => Kind::Interval,
-        Lexeme::OpenGroup => Kind::Open,
-        Lexeme::CloseGroup => Kind::Close,
-        Lexeme::Star | Lexeme::Plus | Lexeme::Question => Kind::Repeat,
-        Lexeme::Bar => Kind::Bar,
+        Lexeme::Set(_) | Lexeme::Quoted(_, _) | Lexeme::Name(_) => LexemeEffect::Unit,
+        Lexeme::Interval(_, _) => LexemeEffect::Interval,
+        Lexeme::OpenGroup => LexemeEffect::Open,
+        Lexeme::CloseGroup => LexemeEffect::Close,
+        Lexeme::Star | Lexeme::Plus | Lexeme::Question => LexemeEffect::Repeat,
+        Lexeme::Bar => LexemeEffect::Bar,
     }
 }
 
@@ -65,7 +65,7 @@ fn empty_group(opened: usize) -> Group {
 }
 
 // Explains why a repeat isn't allowed here.
-fn repeat_cause(text: &[u8], at: Span, groups: &Groups) -> PatternCause {
+fn repeat_cause(text: &[u8], at: Span, groups: &OpenGroups) -> PatternCause {
     let behind_parenthesis = at.start > 0 && groups.innermost.opened == at.start - 1;
     if is_at(text, at.start, b'?') && behind_parenthesis && !groups.outer.is_empty() {
         PatternCause::GroupOption
@@ -76,7 +76,7 @@ fn repeat_cause(text: &[u8], at: Span, groups: &Groups) -> PatternCause {
     }
 }
 
-fn close_group(groups: &mut Groups) -> Option<PatternCause> {
+fn close_group(groups: &mut OpenGroups) -> Option<PatternCause> {
     if groups.outer.is_empty() {
         return Some(PatternCause::GroupNotOpen);
     }
@@ -94,19 +94,19 @@ fn close_group(groups: &mut Groups) -> Option<PatternCause> {
 }
 
 // Returns the innermost group after a lexeme that belongs to no group. Returns `None` if the lexeme isn't allowed there.
-fn with_lexeme(group: Group, kind: Kind) -> Option<Group> {
+fn with_lexeme(group: Group, kind: LexemeEffect) -> Option<Group> {
     match kind {
-        Kind::Unit => Some(Group {
+        LexemeEffect::Unit => Some(Group {
             opened: group.opened,
             is_filled: true,
             ends_with_unit: true,
         }),
-        Kind::Repeat => if group.ends_with_unit {
+        LexemeEffect::Repeat => if group.ends_with_unit {
             Some(group)
         } else {
             None
         },
-        Kind::Interval => if group.is_filled {
+        LexemeEffect::Interval => if group.is_filled {
             Some(Group {
                 opened: group.opened,
                 is_filled: true,
@@ -115,41 +115,41 @@ fn with_lexeme(group: Group, kind: Kind) -> Option<Group> {
         } else {
             None
         },
-        Kind::Bar => if group.is_filled {
+        LexemeEffect::Bar => if group.is_filled {
             Some(empty_group(group.opened))
         } else {
             None
         },
-        Kind::Open | Kind::Close => Some(group),
+        LexemeEffect::Open | LexemeEffect::Close => Some(group),
     }
 }
 
 // Takes a lexeme. Returns the cause if it isn't allowed at its place.
 fn take_lexeme(
     text: &[u8],
-    groups: &mut Groups,
-    kind: Kind,
+    groups: &mut OpenGroups,
+    kind: LexemeEffect,
     at: Span,
 ) -> Result<Option<PatternCause>, AllocError> {
     match kind {
-        Kind::Open => {
+        LexemeEffect::Open => {
             groups.outer.push(groups.innermost)?;
             groups.innermost = empty_group(at.start);
             groups.behind_interval = false;
             Ok(None)
         }
-        Kind::Close => {
+        LexemeEffect::Close => {
             groups.behind_interval = false;
             Ok(close_group(groups))
         }
         _ => match with_lexeme(groups.innermost, kind) {
             Some(group) => {
                 groups.innermost = group;
-                groups.behind_interval = matches!(kind, Kind::Interval);
+                groups.behind_interval = matches!(kind, LexemeEffect::Interval);
                 Ok(None)
             }
             None => Ok(Some(match kind {
-                Kind::Repeat | Kind::Interval => repeat_cause(text, at, groups),
+                LexemeEffect::Repeat | LexemeEffect::Interval => repeat_cause(text, at, groups),
                 _ => PatternCause::EmptyAlternative,
             })),
         },
@@ -232,7 +232,7 @@ fn end_cause(
     body: Body,
     span: Span,
     at: usize,
-    groups: &Groups,
+    groups: &OpenGroups,
 ) -> Option<(PatternCause, Found)> {
     let end = span.end();
     let is_open = !groups.outer.is_empty();
@@ -263,7 +263,7 @@ pub(crate) fn body_cause(
     body: Body,
     span: Span,
 ) -> Result<Option<(PatternCause, Found)>, AllocError> {
-    let mut groups = Groups {
+    let mut groups = OpenGroups {
         outer: Vec::new(alloc),
         innermost: empty_group(span.start),
         behind_interval: false,

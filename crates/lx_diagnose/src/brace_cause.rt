@@ -3,7 +3,7 @@
 use crate::causes::PatternCause;
 use crate::found::{Found, found_at, found_byte};
 use crate::places::{Span, between};
-use crate::scan::{begins_at, behind_digits, behind_word, is_at, is_digit_at, is_word_at, part};
+use crate::scan::{begins_at, is_at, is_digit_at, is_word_at, part, skip_digits, skip_name};
 use lx_rules::limits::MAX_BOUND;
 
 // Returns the number that digits spell. For a large number, returns any large one.
@@ -31,13 +31,13 @@ fn braces_at(text: &[u8], at: usize, end: usize) -> Span {
 fn interval_cause(text: &[u8], at: usize, end: usize) -> (PatternCause, Found) {
     let braces = braces_at(text, at, end);
     let start = at.saturating_add(1);
-    let low = between(start, behind_digits(text, start, end));
+    let low = between(start, skip_digits(text, start, end));
     let least = number_in(text, low);
     if least > MAX_BOUND {
         return (PatternCause::IntervalLarge, found_at(low));
     }
     let next = low.end().saturating_add(1);
-    let high = between(next, behind_digits(text, next, end));
+    let high = between(next, skip_digits(text, next, end));
     if !is_at(text, low.end(), b',') || high.len == 0 || !is_at(text, high.end(), b'}') {
         return (PatternCause::IntervalForm, found_at(braces));
     }
@@ -53,7 +53,7 @@ fn interval_cause(text: &[u8], at: usize, end: usize) -> (PatternCause, Found) {
 
 // Returns a name with hyphens that begins here, or `None` if there is none.
 fn hyphened_name(text: &[u8], start: usize, end: usize) -> Option<Span> {
-    if is_digit_at(text, start) || !is_at(text, behind_word(text, start, end), b'-') {
+    if is_digit_at(text, start) || !is_at(text, skip_name(text, start, end), b'-') {
         return None;
     }
     for at in start..end {

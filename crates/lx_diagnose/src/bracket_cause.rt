@@ -4,7 +4,7 @@ use crate::causes::PatternCause;
 use crate::escape_cause::{escape_cause, escape_len};
 use crate::found::{Found, found_at, found_byte, found_named};
 use crate::places::{Span, between};
-use crate::scan::{begins_at, behind_word, find, is_at, is_listed, part};
+use crate::scan::{begins_at, find, is_at, is_listed, part, skip_name};
 use lx_ere::escape::escape_at;
 
 // Classes of XBD 9.3.5.
@@ -13,7 +13,7 @@ const CLASSES: &[u8] =
 
 // The result of reading one member of the brackets.
 #[derive(Clone, Copy)]
-enum Member {
+enum MemberReading {
     // The member was read, up to this position.
     Upto(usize),
     // The member is malformed.
@@ -34,9 +34,9 @@ fn marked_at(text: &[u8], at: usize, end: usize, close: &[u8]) -> Option<Span> {
 }
 
 // Reads a class from its `[:` on.
-fn class_member(text: &[u8], at: usize, end: usize) -> Member {
+fn class_member(text: &[u8], at: usize, end: usize) -> MemberReading {
     let Some(class) = marked_at(text, at, end, b":]") else {
-        return Member::Bad(
+        return MemberReading::Bad(
             PatternCause::ClassUnknown,
             found_at(Span { start: at, len: 2 }),
         );
@@ -44,25 +44,25 @@ fn class_member(text: &[u8], at: usize, end: usize) -> Member {
     let name = between(at.saturating_add(2), class.end().saturating_sub(2));
     if is_at(text, name.start, b'^') {
         let positive = between(name.start.saturating_add(1), name.end());
-        return Member::Bad(PatternCause::ClassNegated, found_named(class, positive));
+        return MemberReading::Bad(PatternCause::ClassNegated, found_named(class, positive));
     }
-    if behind_word(text, name.start, name.end()) < name.end()
+    if skip_name(text, name.start, name.end()) < name.end()
         || !is_listed(CLASSES, part(text, name))
     {
-        return Member::Bad(PatternCause::ClassUnknown, found_named(class, name));
+        return MemberReading::Bad(PatternCause::ClassUnknown, found_named(class, name));
     }
     if range_follows(text, class.end()) {
-        return Member::Bad(PatternCause::ClassRange, found_at(class));
+        return MemberReading::Bad(PatternCause::ClassRange, found_at(class));
     }
-    Member::Upto(class.end())
+    MemberReading::Upto(class.end())
 }
 
 // Reads one byte between marks, as in `[.c.]`.
-fn collation_member(text: &[u8], at: usize, end: usize, close: &[u8]) -> Member {
+fn collation_member(text: &[u8], at: usize, end: usize, close: &[u8]) -> MemberReading {
     match marked_at(text, at, end, close) {
-        Some(element) if element.len == 5 => Member::Upto(element.end()),
-        Some(element) => Member::Bad(PatternCause::LongCollation, found_at(element)),
-        None => Member::Bad(
+        Some(element) if element.len == 5 => MemberReading::Upto(element.end()),
+        Some(element) => MemberReading::Bad(PatternCause::LongCollation, found_at(element)),
+        None => MemberReading::Bad(
             PatternCause::LongCollation,
             found_at(Span { start: at, len: 2 }),
         ),
@@ -70,20 +70,20 @@ fn collation_member(text: &[u8], at: usize, end: usize, close: &[u8]) -> Member 
 }
 
 // Reads a point of a range: one byte, maybe escaped or between marks.
-fn point_member(text: &[u8], at: usize, end: usize) -> Member {
+fn point_member(text: &[u8], at: usize, end: usize) -> MemberReading {
     if is_at(text, at, b'\\') {
         return match escape_len(text, at, end) {
-            Some(len) => Member::Upto(at.saturating_add(1).saturating_add(len)),
+            Some(len) => MemberReading::Upto(at.saturating_add(1).saturating_add(len)),
             None => {
                 let (cause, place) = escape_cause(text, at, end);
-                Member::Bad(cause, place)
+                MemberReading::Bad(cause, place)
             }
         };
     }
     if begins_at(text, at, b"[.") {
         return collation_member(text, at, end, b".]");
     }
-    Member::Upto(at.saturating_add(1))
+    MemberReading::Upto(at.saturating_add(1))
 }
 
 // Returns the byte of a point.
@@ -100,34 +100,34 @@ fn point_byte(text: &[u8], point: Span) -> u8 {
 }
 
 // Reads the end of a range whose first point is known.
-fn range_member(text: &[u8], low: Span, end: usize) -> Member {
+fn range_member(text: &[u8], low: Span, end: usize) -> MemberReading {
     let at = low.end().saturating_add(1);
     if begins_at(text, at, b"[:") || begins_at(text, at, b"[=") {
-        return Member::Bad(
+        return MemberReading::Bad(
             PatternCause::ClassRange,
             found_at(Span { start: at, len: 2 }),
         );
     }
     match point_member(text, at, end) {
-        Member::Bad(cause, place) => Member::Bad(cause, place),
-        Member::Upto(behind) => {
+        MemberReading::Bad(cause, place) => MemberReading::Bad(cause, place),
+        MemberReading::Upto(behind) => {
             let high = between(at, behind);
             if point_byte(text, low) > point_byte(text, high) {
-                Member::Bad(
+                MemberReading::Bad(
                     PatternCause::RangeBackwards,
                     found_at(between(low.start, behind)),
                 )
             } else if range_follows(text, behind) {
-                Member::Bad(PatternCause::RangeShared, found_at(high))
+                MemberReading::Bad(PatternCause::RangeShared, found_at(high))
             } else {
-                Member::Upto(behind)
+                MemberReading::Upto(behind)
             }
         }
     }
 }
 
 // Reads the member that begins at this position.
-fn member_at(text: &[u8], at: usize, end: usize) -> Member {
+fn member_at(text: &[u8], at: usize, end: usize) -> MemberReading {
     if begins_at(text, at, b"[:") {
         return class_member(text, at, end);
     }
@@ -135,12 +135,12 @@ fn member_at(text: &[u8], at: usize, end: usize) -> Member {
         return collation_member(text, at, end, b"=]");
     }
     match point_member(text, at, end) {
-        Member::Bad(cause, place) => Member::Bad(cause, place),
-        Member::Upto(behind) => {
+        MemberReading::Bad(cause, place) => MemberReading::Bad(cause, place),
+        MemberReading::Upto(behind) => {
             if range_follows(text, behind) && behind.saturating_add(1) < end {
                 range_member(text, between(at, behind), end)
             } else {
-                Member::Upto(behind)
+                MemberReading::Upto(behind)
             }
         }
     }
@@ -163,8 +163,8 @@ pub(crate) fn bracket_cause(text: &[u8], at: usize, end: usize) -> (PatternCause
             return (PatternCause::NoReading, found_at(between(at, i + 1)));
         }
         match member_at(text, i, end) {
-            Member::Upto(behind) => next = behind,
-            Member::Bad(cause, place) => return (cause, place),
+            MemberReading::Upto(behind) => next = behind,
+            MemberReading::Bad(cause, place) => return (cause, place),
         }
     }
     (PatternCause::BracketsOpen, found_byte(at))

@@ -55,7 +55,7 @@ fn are_letters(words: &[Word], number: usize) -> bool {
 }
 
 // Returns the number of the word that names the condition after `BEGIN`, maybe in a parenthesis.
-fn begun_name(words: &[Word], number: usize) -> usize {
+fn begin_name(words: &[Word], number: usize) -> usize {
     let next = number.saturating_add(1);
     if are_letters(words, next) {
         next
@@ -68,7 +68,7 @@ fn begun_name(words: &[Word], number: usize) -> usize {
 fn undeclared_in_action(outline: &Outline, text: &[u8], words: &PlacedWords) -> Option<Span> {
     for i in 0..words.words.len() {
         if is_begin(words.words[i]) {
-            let number = begun_name(&words.words, i);
+            let number = begin_name(&words.words, i);
             if are_letters(&words.words, number) && number < words.places.len() {
                 let name = words.places[number];
                 if !is_known(outline, text, name) {

@@ -8,7 +8,7 @@ use std::alloc::{AllocError, Global};
 
 // A mention of a definition, with its place.
 #[derive(Clone, Copy)]
-struct Mention {
+struct PlacedMention {
     to: usize,
     at: Span,
 }
@@ -26,14 +26,14 @@ enum Stage {
 
 // The range of a definition's mentions: from `first` up to `end`.
 #[derive(Clone, Copy)]
-struct Row {
+struct MentionRange {
     first: usize,
     end: usize,
 }
 
 // A definition that is being followed, and the number of its next mention.
 #[derive(Clone, Copy)]
-struct Step {
+struct DepthStep {
     definition: usize,
     next: usize,
 }
@@ -50,8 +50,8 @@ pub(crate) enum Depth {
 /// The mentions of definitions by definitions.
 #[derive(Drop)]
 pub(crate) struct Mentions {
-    mentions: Vec<Mention>,
-    rows: Vec<Row>,
+    mentions: Vec<PlacedMention>,
+    rows: Vec<MentionRange>,
     stages: Vec<Stage>,
 }
 
@@ -59,28 +59,28 @@ fn push_mentions(
     outline: &Outline,
     text: &[u8],
     names: &[Span],
-    mentions: &mut Vec<Mention>,
+    mentions: &mut Vec<PlacedMention>,
 ) -> Result<(), AllocError> {
     for name in names {
         let at = *name;
         if let Some(to) = number_of(outline, text, at) {
-            mentions.push(Mention { to, at })?;
+            mentions.push(PlacedMention { to, at })?;
         }
     }
     Ok(())
 }
 
-fn set_row(rows: &mut [Row], number: usize, row: Row) {
+fn set_row(rows: &mut [MentionRange], number: usize, row: MentionRange) {
     if number < rows.len() {
         rows[number] = row;
     }
 }
 
-fn row_of(rows: &[Row], number: usize) -> Row {
+fn row_of(rows: &[MentionRange], number: usize) -> MentionRange {
     if number < rows.len() {
         rows[number]
     } else {
-        Row { first: 0, end: 0 }
+        MentionRange { first: 0, end: 0 }
     }
 }
 
@@ -107,7 +107,7 @@ pub(crate) fn mentions_of(
 ) -> Result<Mentions, AllocError> {
     let mut mentions = Vec::new(alloc);
     let count = outline.definitions.len();
-    let mut rows = vec![in alloc; Row { first: 0, end: 0 }; count]?;
+    let mut rows = vec![in alloc; MentionRange { first: 0, end: 0 }; count]?;
     let stages = vec![in alloc; Stage::Pending; count]?;
     for visit in visits {
         let number = visit.definition;
@@ -115,7 +115,7 @@ pub(crate) fn mentions_of(
         let first = mentions.len();
         push_mentions(outline, text, &names, &mut mentions)?;
         let end = mentions.len();
-        set_row(&mut rows, number, Row { first, end });
+        set_row(&mut rows, number, MentionRange { first, end });
     }
     Ok(Mentions {
         mentions,
@@ -124,7 +124,7 @@ pub(crate) fn mentions_of(
     })
 }
 
-fn height(mentions: &[Mention], stages: &[Stage], row: Row) -> usize {
+fn height(mentions: &[PlacedMention], stages: &[Stage], row: MentionRange) -> usize {
     let mut most: usize = 0;
     for i in row.first..row.end {
         if i < mentions.len() {
@@ -138,11 +138,11 @@ fn height(mentions: &[Mention], stages: &[Stage], row: Row) -> usize {
 
 // Takes one step: follows a mention, or completes a definition. Returns the mention if it closes a circle.
 fn take_step(
-    mentions: &[Mention],
-    rows: &[Row],
+    mentions: &[PlacedMention],
+    rows: &[MentionRange],
     stages: &mut [Stage],
-    steps: &mut Vec<Step>,
-    step: Step,
+    steps: &mut Vec<DepthStep>,
+    step: DepthStep,
 ) -> Result<Option<Span>, AllocError> {
     let row = row_of(rows, step.definition);
     if step.next >= row.end || step.next >= mentions.len() {
@@ -151,7 +151,7 @@ fn take_step(
         return Ok(None);
     }
     let mention = mentions[step.next];
-    steps.push(Step {
+    steps.push(DepthStep {
         definition: step.definition,
         next: step.next + 1,
     })?;
@@ -160,7 +160,7 @@ fn take_step(
         Stage::Done(_) => Ok(None),
         Stage::Pending => {
             set_stage(stages, mention.to, Stage::Open);
-            steps.push(Step {
+            steps.push(DepthStep {
                 definition: mention.to,
                 next: row_of(rows, mention.to).first,
             })?;
@@ -187,7 +187,7 @@ pub(crate) fn depth_from(
     let mut steps = Vec::new(alloc);
     if let Stage::Pending = stage_of(stages, definition) {
         set_stage(stages, definition, Stage::Open);
-        steps.push(Step {
+        steps.push(DepthStep {
             definition,
             next: row_of(rows, definition).first,
         })?;

@@ -15,7 +15,7 @@ use crate::name_cause::{depth_cause, name_cause};
 use crate::open_cause::open_cause;
 use crate::outline::{Outline, outline_of};
 use crate::pattern_cause::pattern_cause;
-use crate::places::{Place, Span};
+use crate::places::{Span, TextPlace};
 use crate::section_cause::{limit_cause, rules_cause, twice_cause};
 use crate::sectioning::RuleExtent;
 use lx_spec::{Code, SpecFault};
@@ -26,17 +26,17 @@ use std::alloc::{AllocError, Global};
 pub struct Diagnosis {
     pub cause: Cause,
     /// The place of the cause, in the line of the fault. The column is 0 if the cause isn't in that line.
-    pub place: Place,
+    pub place: TextPlace,
     /// Part of the text that is the name in the sentence.
     pub name: Span,
     /// Part of the text that is the other name, for example a declared name that is similar.
     pub other: Span,
     /// A second place: of the first declaration of a name, in a definition, or on another line of an action. `note_words` describes it.
-    pub note: Option<Place>,
+    pub note: Option<TextPlace>,
 }
 
 // Returns the second place: the one that the cause names, or the cause's own place if that is on another line than the fault.
-fn note_of(text: &[u8], place: Place, found: Found) -> Option<Place>
+fn note_of(text: &[u8], place: TextPlace, found: Found) -> Option<TextPlace>
     ensures { IfSome result (IsInText text.now) }
 {
     match found.note {

@@ -15,7 +15,7 @@ fn is_octal_at(text: &[u8], at: usize) -> bool {
 }
 
 // Returns the position after the digits of an escape. At most three digits count if they are octal.
-fn behind_number(text: &[u8], start: usize, end: usize) -> usize {
+fn skip_number(text: &[u8], start: usize, end: usize) -> usize {
     if is_at(text, start, b'x') {
         let digits = start.saturating_add(1);
         for at in digits..end {
@@ -41,7 +41,7 @@ pub(crate) fn escape_cause(text: &[u8], at: usize, end: usize) -> (PatternCause,
     } else {
         (
             PatternCause::EscapeLarge,
-            found_at(between(at, behind_number(text, start, end))),
+            found_at(between(at, skip_number(text, start, end))),
         )
     }
 }

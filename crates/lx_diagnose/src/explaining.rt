@@ -40,7 +40,7 @@ pub fn all_topics() -> Split<'static, &'static str> {
 }
 
 // Returns the rest of the first line that begins with `begin`.
-fn line_behind(text: &'static str, begin: &str) -> &'static str {
+fn rest_of_line(text: &'static str, begin: &str) -> &'static str {
     for line in text.split("\n") {
         if let Some(rest) = line.strip_prefix(begin) {
             return rest;
@@ -52,15 +52,15 @@ fn line_behind(text: &'static str, begin: &str) -> &'static str {
 /// Returns in one line what is wrong, if the word is a code or the name of a cause. Otherwise the result is empty.
 pub fn words_of(word: &str) -> &'static str {
     match explain(word) {
-        Some(said) => line_behind(said, INDENT),
+        Some(said) => rest_of_line(said, INDENT),
         None => "",
     }
 }
 
 /// Returns in one line what to do, if the word is a code or the name of a cause. Otherwise the result is empty.
-pub fn to_do(word: &str) -> &'static str {
+pub fn advice_of(word: &str) -> &'static str {
     match explain(word) {
-        Some(said) => line_behind(said, TO_DO),
+        Some(said) => rest_of_line(said, TO_DO),
         None => "",
     }
 }

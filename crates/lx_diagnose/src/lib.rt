@@ -36,11 +36,11 @@ pub mod words;
 
 pub use crate::causes::Cause;
 pub use crate::diagnosing::{Diagnosis, diagnose};
-pub use crate::explaining::{all_topics, explain, to_do, words_of};
+pub use crate::explaining::{advice_of, all_topics, explain, words_of};
 pub use crate::lines::line_bytes;
 pub use crate::naming::name_of;
 pub use crate::phrases::note_words;
-pub use crate::places::{Place, Span};
+pub use crate::places::{Span, TextPlace};
 pub use crate::similar::Nearest;
 pub use crate::table_text::{TableCause, table_cause, table_sentence, table_topic};
 pub use crate::topic::{code_word, hint, topic_of};

@@ -4,8 +4,8 @@ use crate::causes::LineCause;
 use crate::found::{Found, found_at, found_byte, found_named};
 use crate::places::{Span, between, one_byte};
 use crate::scan::{
-    before_blanks, begins_at, behind_blanks, behind_digits, behind_word, find, is_at, is_blank_at,
-    is_digit_at, is_listed, is_word_at, next_blank, part,
+    begins_at, find, is_at, is_blank_at, is_digit_at, is_listed, is_word_at, next_blank, part,
+    skip_blanks, skip_digits, skip_name, trim_blanks_end,
 };
 use lx_spec::action::read_action;
 use lx_spec::rule_line::{RuleLine, rule_line_of};
@@ -87,7 +87,7 @@ fn other_option(text: &[u8], start: usize, end: usize) -> Option<Span> {
 }
 
 fn option_cause(text: &[u8], word: Span, end: usize) -> (LineCause, Found) {
-    let start = behind_blanks(text, word.end(), end);
+    let start = skip_blanks(text, word.end(), end);
     if start >= end || find(text, start, end, b",").is_some() {
         return (LineCause::OptionForm, found_at(word));
     }
@@ -101,14 +101,14 @@ fn conditions_cause(text: &[u8], word: Span, end: usize) -> (LineCause, Found) {
     if let Some(comma) = find(text, word.end(), end, b",") {
         return (LineCause::ConditionsComma, found_byte(comma));
     }
-    let start = behind_blanks(text, word.end(), end);
+    let start = skip_blanks(text, word.end(), end);
     let mut next = start;
     for at in start..end {
         if at < next || is_blank_at(text, at) {
             continue;
         }
         next = next_blank(text, at, end);
-        if behind_word(text, at, next) < next || !begins_name(text, at) {
+        if skip_name(text, at, next) < next || !begins_name(text, at) {
             return (
                 LineCause::ConditionsForm,
                 found_named(between(at, next), word),
@@ -130,14 +130,14 @@ fn is_size(text: &[u8], letters: Span) -> bool {
     let end = letters.end();
     is_listed(SIZES, part(text, letters))
         || is_listed(SIZES, part(text, letter))
-            && behind_digits(text, letters.start.saturating_add(1), end) == end
+            && skip_digits(text, letters.start.saturating_add(1), end) == end
 }
 
 // Explains a line that begins with `%`.
 fn percent_cause(text: &[u8], line: Span) -> (LineCause, Found) {
     let end = line.end();
     let start = line.start.saturating_add(1);
-    let word = between(line.start, behind_word(text, start, end));
+    let word = between(line.start, skip_name(text, start, end));
     let letters = between(start, word.end());
     let name = part(text, letters);
     if begins_at(text, line.start, b"%}") {
@@ -165,7 +165,7 @@ fn percent_cause(text: &[u8], line: Span) -> (LineCause, Found) {
 }
 
 fn is_c(text: &[u8], line: Span) -> bool {
-    let last = before_blanks(text, line.start, line.end()).saturating_sub(1);
+    let last = trim_blanks_end(text, line.start, line.end()).saturating_sub(1);
     is_at(text, line.start, b'#')
         || begins_at(text, line.start, b"//")
         || is_at(text, last, b';')
@@ -177,11 +177,11 @@ fn is_c(text: &[u8], line: Span) -> bool {
 fn named_cause(text: &[u8], line: Span) -> (LineCause, Found) {
     let end = line.end();
     let word = between(line.start, next_blank(text, line.start, end));
-    let letters_end = behind_word(text, line.start, end);
+    let letters_end = skip_name(text, line.start, end);
     if is_c(text, line) {
         return (
             LineCause::CLine,
-            found_at(between(line.start, before_blanks(text, line.start, end))),
+            found_at(between(line.start, trim_blanks_end(text, line.start, end))),
         );
     }
     if letters_end == word.end() && begins_name(text, line.start) {

@@ -4,7 +4,7 @@ ghost use Rattle.std.specs.Prelude.{◌≡◌, ◌+◌, ◌-◌, ◌<◌, ◌≤
 ghost use Rattle.std.specs.List.{prefix_len};
 ghost use Rattle.lx_diagnose.specs.Places as specs;
 
-use crate::places::{Place, Span};
+use crate::places::{Span, TextPlace};
 
 fn line_len(text: &[u8]) -> usize
     ensures value { result ≡ prefix_len specs.is_no_newline text.now }
@@ -13,7 +13,7 @@ fn line_len(text: &[u8]) -> usize
     text.iter().take_while(|c| **c != b'\n').count()
 }
 
-fn behind_line(text: &[u8]) -> &[u8]
+fn skip_line(text: &[u8]) -> &[u8]
     ensures { result.now ≡ specs.behind_line text.now }
 {
     let n = line_len(text);
@@ -26,17 +26,17 @@ fn from_line(text: &[u8], line: u32) -> &[u8]
 {
     let mut rest = text;
     for _ in 1..line {
-        rest = behind_line(rest);
+        rest = skip_line(rest);
     }
     rest
 }
 
-fn unknown_place(start: usize, line: u32) -> Place
+fn unknown_place(start: usize, line: u32) -> TextPlace
     ensures line { result.line ≡ line }
     ensures column { result.column ≡ 0 }
     ensures width { result.width ≡ 0 }
 {
-    Place {
+    TextPlace {
         start,
         line,
         column: 0,
@@ -45,7 +45,7 @@ fn unknown_place(start: usize, line: u32) -> Place
 }
 
 // Returns the place of `width` bytes after the first `before` bytes of a line.
-fn place_behind(start: usize, line: u32, before: usize, width: usize, len: usize) -> Place
+fn place_after(start: usize, line: u32, before: usize, width: usize, len: usize) -> TextPlace
     requires within { before ≤ len }
     requires fits { len < 9223372036854775808 }
     ensures start { result.start ≡ start }
@@ -54,7 +54,7 @@ fn place_behind(start: usize, line: u32, before: usize, width: usize, len: usize
     ensures within { result.column + result.width ≤ len + 1 }
 {
     let left = len - before;
-    Place {
+    TextPlace {
         start,
         line,
         column: before + 1,
@@ -64,7 +64,7 @@ fn place_behind(start: usize, line: u32, before: usize, width: usize, len: usize
 
 /// Returns the place of a part of the text within this line. Cuts the part off at the line's end. The column is 0 if the part doesn't begin in the
 /// line.
-pub(crate) fn place_in(text: &[u8], line: u32, span: Span) -> Place
+pub(crate) fn place_in(text: &[u8], line: u32, span: Span) -> TextPlace
     ensures line { result.line ≡ line }
     ensures place { specs.IsInText text.now result }
 {
@@ -75,7 +75,7 @@ pub(crate) fn place_in(text: &[u8], line: u32, span: Span) -> Place
     let start = text.len().saturating_sub(rest.len());
     let len = line_len(rest);
     if start <= span.start && span.start - start <= len {
-        place_behind(span.start, line, span.start - start, span.len, len)
+        place_after(span.start, line, span.start - start, span.len, len)
     } else {
         unknown_place(span.start, line)
     }
@@ -93,7 +93,7 @@ pub(crate) fn line_number(text: &[u8], at: usize) -> u32 {
 }
 
 /// Returns the place of a part of the text.
-pub fn place_of(text: &[u8], span: Span) -> Place
+pub fn place_of(text: &[u8], span: Span) -> TextPlace
     ensures { specs.IsInText text.now result }
 {
     place_in(text, line_number(text, span.start), span)

@@ -5,14 +5,14 @@ use crate::found::{Found, found_at};
 use crate::line_cause::is_rule;
 use crate::outline::Outline;
 use crate::places::{Span, between, one_byte};
-use crate::scan::{begins_at, behind_blanks, is_at};
+use crate::scan::{begins_at, is_at, skip_blanks};
 use crate::sectioning::RuleExtent;
-use lx_spec::block::{Mode, behind_line, counts, next_mode};
+use lx_spec::block::{Mode, counts, next_mode, skip_line};
 use std::alloc::{AllocError, Global};
 
 // The state of an action that was read up to a position.
 #[derive(Drop)]
-struct Reading {
+struct ActionReading {
     mode: Mode,
     // Open braces, the outermost first.
     braces: Vec<Span>,
@@ -26,7 +26,7 @@ fn is_comment(mode: Mode) -> bool {
     matches!(mode, Mode::Comment | Mode::Star)
 }
 
-fn take_brace(reading: &mut Reading, byte: u8, at: usize) -> Result<(), AllocError> {
+fn take_brace(reading: &mut ActionReading, byte: u8, at: usize) -> Result<(), AllocError> {
     let counts = counts(reading.mode);
     if byte == b'{' && counts {
         reading.braces.push(one_byte(at))?;
@@ -38,9 +38,9 @@ fn take_brace(reading: &mut Reading, byte: u8, at: usize) -> Result<(), AllocErr
     Ok(())
 }
 
-fn take_byte(reading: &mut Reading, byte: u8, at: usize) -> Result<(), AllocError> {
+fn take_byte(reading: &mut ActionReading, byte: u8, at: usize) -> Result<(), AllocError> {
     if byte == b'\n' {
-        reading.mode = behind_line(reading.mode);
+        reading.mode = skip_line(reading.mode);
         return Ok(());
     }
     take_brace(reading, byte, at)?;
@@ -83,7 +83,7 @@ fn action_cause(
     text: &[u8],
     rule: RuleExtent,
 ) -> Result<(OpenCause, Found), AllocError> {
-    let mut reading = Reading {
+    let mut reading = ActionReading {
         mode: Mode::Code,
         braces: Vec::new(alloc),
         comment: rule.action,
@@ -119,7 +119,7 @@ fn action_cause(
 fn indented_close(text: &[u8], from: usize) -> Option<Span> {
     for at in from..text.len() {
         if is_at(text, at, b'\n') {
-            let behind = behind_blanks(text, at.saturating_add(1), text.len());
+            let behind = skip_blanks(text, at.saturating_add(1), text.len());
             if begins_at(text, behind, b"%}") {
                 return Some(Span {
                     start: behind,

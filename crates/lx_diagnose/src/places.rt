@@ -17,7 +17,7 @@ impl Span {
 /// A place: the number of bytes before it in the text, its line and column, both counted from 1, and its number of bytes. A column of 0 is unknown,
 /// and a line of 0 is none.
 #[derive(Clone, Copy)]
-pub struct Place {
+pub struct TextPlace {
     pub start: usize,
     pub line: u32,
     pub column: usize,

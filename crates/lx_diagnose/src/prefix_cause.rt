@@ -4,8 +4,8 @@ use crate::causes::PatternCause;
 use crate::found::{Found, found_at, found_byte, found_named};
 use crate::places::{Span, between};
 use crate::scan::{
-    before_blanks, begins_at, behind_blanks, behind_word, is_at, is_digit_at, is_word_at,
-    next_blank, part,
+    begins_at, is_at, is_digit_at, is_word_at, next_blank, part, skip_blanks, skip_name,
+    trim_blanks_end,
 };
 use crate::sectioning::{RuleExtent, RulePrefix};
 use lx_spec::action::read_action;
@@ -16,7 +16,7 @@ const END_OF_FILE: &[u8] = b"<<EOF>>";
 
 // Returns true if the text from `start` up to `end` is the name of a condition, or `0`.
 fn is_name_in(text: &[u8], start: usize, end: usize) -> bool {
-    start < end && !is_digit_at(text, start) && behind_word(text, start, end) == end
+    start < end && !is_digit_at(text, start) && skip_name(text, start, end) == end
         || part(text, between(start, end)) == b"0".as_slice()
 }
 
@@ -42,9 +42,9 @@ fn first_other(text: &[u8], names: Span) -> Option<Span> {
 // Returns true if the field is a name with blanks before or after it.
 fn is_name_with_blanks(text: &[u8], field: Span) -> bool {
     let end = field.end();
-    let start = behind_blanks(text, field.start, end);
+    let start = skip_blanks(text, field.start, end);
     next_blank(text, field.start, end) < end
-        && is_name_in(text, start, before_blanks(text, start, end))
+        && is_name_in(text, start, trim_blanks_end(text, start, end))
 }
 
 fn listed_cause(text: &[u8], line: Span, names: Span) -> Option<(PatternCause, Found)> {
@@ -77,7 +77,7 @@ fn unclosed_cause(text: &[u8], line: Span) -> (PatternCause, Found) {
     }
 }
 
-fn behind_list_cause(text: &[u8], rule: RuleExtent) -> Option<(PatternCause, Found)> {
+fn cause_after_list(text: &[u8], rule: RuleExtent) -> Option<(PatternCause, Found)> {
     if rule.pattern.len == 0 {
         let behind = Span {
             start: rule.pattern.start,
@@ -140,7 +140,7 @@ pub(crate) fn prefix_cause(
                 if part(text, behind) == END_OF_FILE {
                     Ok(Some((PatternCause::EndOfFile, found_at(behind))))
                 } else {
-                    Ok(behind_list_cause(text, rule))
+                    Ok(cause_after_list(text, rule))
                 }
             }
         },

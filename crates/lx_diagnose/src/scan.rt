@@ -44,7 +44,7 @@ pub fn is_digit_at(text: &[u8], at: usize) -> bool {
 }
 
 /// Returns the first position from `from` up to `end` that has no blank.
-pub fn behind_blanks(text: &[u8], from: usize, end: usize) -> usize {
+pub fn skip_blanks(text: &[u8], from: usize, end: usize) -> usize {
     for at in from..end {
         if !is_blank_at(text, at) {
             return at;
@@ -64,7 +64,7 @@ pub fn next_blank(text: &[u8], from: usize, end: usize) -> usize {
 }
 
 /// Returns the first position from `from` up to `end` that has no letter, digit or `_`.
-pub fn behind_word(text: &[u8], from: usize, end: usize) -> usize {
+pub fn skip_name(text: &[u8], from: usize, end: usize) -> usize {
     for at in from..end {
         if !is_word_at(text, at) {
             return at;
@@ -74,7 +74,7 @@ pub fn behind_word(text: &[u8], from: usize, end: usize) -> usize {
 }
 
 /// Returns the first position from `from` up to `end` that has no digit.
-pub fn behind_digits(text: &[u8], from: usize, end: usize) -> usize {
+pub fn skip_digits(text: &[u8], from: usize, end: usize) -> usize {
     for at in from..end {
         if !is_digit_at(text, at) {
             return at;
@@ -94,7 +94,7 @@ pub fn find(text: &[u8], from: usize, end: usize, word: &[u8]) -> Option<usize> 
 }
 
 /// Returns the position after the last byte from `from` up to `end` that isn't a blank.
-pub fn before_blanks(text: &[u8], from: usize, end: usize) -> usize {
+pub fn trim_blanks_end(text: &[u8], from: usize, end: usize) -> usize {
     let mut last = from;
     for at in from..end {
         if !is_blank_at(text, at) {

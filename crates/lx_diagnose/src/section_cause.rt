@@ -5,7 +5,7 @@ use crate::found::{Found, found_at, found_noted};
 use crate::name_cause::condition_named;
 use crate::outline::{ConditionLine, DefinitionLine, Outline};
 use crate::places::{Span, between};
-use crate::scan::{begins_at, behind_blanks, behind_word, is_at, is_blank_at, part};
+use crate::scan::{begins_at, is_at, is_blank_at, part, skip_blanks, skip_name};
 
 // The first words of actions.
 const RETURN: &[u8] = b"return";
@@ -23,7 +23,7 @@ fn definition_named(definitions: &[DefinitionLine], text: &[u8], name: Span) -> 
 }
 
 // Returns the later place of a name that is declared twice, with the first place.
-fn again(name: Span, first: Option<Span>) -> Option<Found> {
+fn repeated_name(name: Span, first: Option<Span>) -> Option<Found> {
     match first {
         Some(first) => if first.start < name.start {
             Some(found_noted(name, first))
@@ -38,7 +38,7 @@ fn definition_again(outline: &Outline, text: &[u8], line: u32) -> Option<Found> 
     for definition in &outline.definitions {
         if definition.line == line {
             let first = definition_named(&outline.definitions, text, definition.name);
-            if let Some(found) = again(definition.name, first) {
+            if let Some(found) = repeated_name(definition.name, first) {
                 return Some(found);
             }
         }
@@ -57,7 +57,7 @@ fn condition_again(
                 return Some((TwiceCause::Initial, found_at(condition.name)));
             }
             let first = condition_named(conditions, text, condition.name);
-            if let Some(found) = again(condition.name, first) {
+            if let Some(found) = repeated_name(condition.name, first) {
                 return Some((TwiceCause::Again, found));
             }
         }
@@ -79,7 +79,7 @@ pub(crate) fn twice_cause(
         Some(cause) => cause,
         None => (
             TwiceCause::Again,
-            found_at(between(whole.start, behind_word(text, whole.start, whole.end()))),
+            found_at(between(whole.start, skip_name(text, whole.start, whole.end()))),
         ),
     }
 }
@@ -100,7 +100,7 @@ pub(crate) fn limit_cause(outline: &Outline, line: u32, whole: Span) -> (LimitCa
 }
 
 // Returns a cause without its own line: its place is the second place.
-fn noted(at: Span) -> Found {
+fn found_without_line(at: Span) -> Found {
     let mut place = found_noted(at, at);
     place.other = at;
     place
@@ -111,7 +111,7 @@ fn indented_percent(text: &[u8]) -> Option<Span> {
     for at in 0..text.len() {
         let begins = at == 0 || is_at(text, at - 1, b'\n');
         if begins && is_blank_at(text, at) {
-            let behind = behind_blanks(text, at, text.len());
+            let behind = skip_blanks(text, at, text.len());
             if begins_at(text, behind, b"%%") {
                 return Some(Span {
                     start: behind,
@@ -135,14 +135,14 @@ fn is_like_action(text: &[u8], substitute: Span) -> bool {
 /// Explains why no line begins the rules section.
 pub(crate) fn rules_cause(outline: &Outline, text: &[u8]) -> (RulesCause, Found) {
     if let Some(percent) = indented_percent(text) {
-        return (RulesCause::IndentedPercent, noted(percent));
+        return (RulesCause::IndentedPercent, found_without_line(percent));
     }
     for definition in &outline.definitions {
         let substitute = definition.substitute;
         if is_like_action(text, substitute) {
             return (
                 RulesCause::RulesAsDefinitions,
-                noted(between(definition.name.start, substitute.end())),
+                found_without_line(between(definition.name.start, substitute.end())),
             );
         }
     }

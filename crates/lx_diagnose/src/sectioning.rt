@@ -1,10 +1,10 @@
 //! The kinds of a specification's lines, with their positions.
 
 use crate::places::{Span, between};
-use crate::scan::{begins_at, behind_blanks, find, is_at, part};
+use crate::scan::{begins_at, find, is_at, part, skip_blanks};
 use lx_spec::block::{Count, Mode, is_closed, with_line};
 use lx_spec::line::{Line, line_of};
-use lx_spec::rule_line::{Prefix, RuleLine, rule_line_of};
+use lx_spec::rule_line::{RuleLine, RulePrefix, rule_line_of};
 
 /// The section that a line is in.
 #[derive(Clone, Copy)]
@@ -78,7 +78,7 @@ impl RuleExtent {
     }
 }
 
-fn counted(count: Count, line: &[u8]) -> Count {
+fn count_line(count: Count, line: &[u8]) -> Count {
     if count.opened < MAX_BRACES && count.closed < MAX_BRACES && line.len() < MAX_BRACES {
         with_line(count, line)
     } else {
@@ -86,7 +86,7 @@ fn counted(count: Count, line: &[u8]) -> Count {
     }
 }
 
-fn behind_action(count: Count) -> Section {
+fn section_after_action(count: Count) -> Section {
     if is_closed(count) {
         Section::Rules
     } else {
@@ -107,7 +107,7 @@ fn kind_in_definitions(text: &[u8], line: Span) -> (LineKind, Section) {
                 len: name.len(),
             };
             let substitute = Span {
-                start: behind_blanks(text, name.end(), line.end()),
+                start: skip_blanks(text, name.end(), line.end()),
                 len: substitute.len(),
             };
             (
@@ -119,11 +119,11 @@ fn kind_in_definitions(text: &[u8], line: Span) -> (LineKind, Section) {
 }
 
 // Returns the prefix, and the position where the pattern begins.
-fn prefix_and_pattern(line: Span, prefix: &Prefix) -> (RulePrefix, usize) {
+fn prefix_and_pattern(line: Span, prefix: &RulePrefix) -> (RulePrefix, usize) {
     match prefix {
-        Prefix::Absent => (RulePrefix::Absent, line.start),
-        Prefix::Unclosed => (RulePrefix::Unclosed, line.end()),
-        Prefix::Listed(names) => {
+        RulePrefix::Absent => (RulePrefix::Absent, line.start),
+        RulePrefix::Unclosed => (RulePrefix::Unclosed, line.end()),
+        RulePrefix::Listed(names) => {
             let names = Span {
                 start: line.start.saturating_add(1),
                 len: names.len(),
@@ -133,7 +133,12 @@ fn prefix_and_pattern(line: Span, prefix: &Prefix) -> (RulePrefix, usize) {
     }
 }
 
-fn rule_extent(line: Span, prefix: &Prefix, pattern_len: usize, action_len: usize) -> RuleExtent {
+fn rule_extent(
+    line: Span,
+    prefix: &RulePrefix,
+    pattern_len: usize,
+    action_len: usize,
+) -> RuleExtent {
     let (prefix, start) = prefix_and_pattern(line, prefix);
     RuleExtent {
         line,
@@ -165,7 +170,10 @@ fn kind_in_rules(text: &[u8], line: Span) -> (LineKind, Section) {
                 mode: Mode::Code,
             };
             let rule = rule_extent(line, &prefix, pattern.len(), action.len());
-            (LineKind::Rule(rule), behind_action(counted(start, action)))
+            (
+                LineKind::Rule(rule),
+                section_after_action(count_line(start, action)),
+            )
         }
     }
 }
@@ -199,8 +207,8 @@ pub fn kind_of_line(text: &[u8], line: Span, section: Section) -> (LineKind, Sec
             (LineKind::Silent, next)
         }
         Section::Action(count) => {
-            let more = counted(count, part(text, line));
-            (LineKind::MoreAction, behind_action(more))
+            let more = count_line(count, part(text, line));
+            (LineKind::MoreAction, section_after_action(more))
         }
         Section::Behind => (LineKind::Behind, Section::Behind),
     }

@@ -4,8 +4,8 @@ ghost use Rattle.std.specs.Prelude.{◌<◌, IfOk, length};
 ghost use Rattle.lx_diagnose.specs.Printed.{ArePrinted};
 
 use crate::places::{Span, between};
-use crate::scan::{begins_at, behind_digits, find, is_at, part};
-use crate::wording::{Fillings, filled, printed, told};
+use crate::scan::{begins_at, find, is_at, part, skip_digits};
+use crate::wording::{Fillings, fill, or_question_mark, shown_bytes};
 use crate::words_of;
 use std::alloc::{AllocError, Global};
 
@@ -28,7 +28,7 @@ pub enum TableCause {
 // Returns the position of the version number.
 fn version_of(text: &[u8]) -> Span {
     let start = BEGINNING.len();
-    between(start, behind_digits(text, start, text.len()))
+    between(start, skip_digits(text, start, text.len()))
 }
 
 fn is_newer(text: &[u8]) -> bool {
@@ -114,14 +114,14 @@ pub fn table_sentence(alloc: Global, cause: TableCause, text: &[u8]) -> Result<V
 {
     let phrase = table_phrase(cause).as_bytes();
     if phrase.is_empty() {
-        let words = printed(alloc, words_of(table_topic(cause)).as_bytes())?;
-        return told(words);
+        let words = shown_bytes(alloc, words_of(table_topic(cause)).as_bytes())?;
+        return or_question_mark(words);
     }
     let fillings = Fillings {
         name: part(text, version_of(text)),
         other: part(text, version_of(text)),
         line: count_lines(text),
     };
-    let words = filled(alloc, phrase, &fillings)?;
-    told(words)
+    let words = fill(alloc, phrase, &fillings)?;
+    or_question_mark(words)
 }

@@ -4,9 +4,9 @@ ghost use Rattle.std.specs.Prelude.{◌≡◌};
 ghost use Rattle.lx_diagnose.specs.Causes.{code_of};
 ghost use Rattle.lx_diagnose.specs.CodeWords.{word_of};
 
+use crate::advice_of;
 use crate::causes::Cause;
 use crate::naming::name_of;
-use crate::to_do;
 
 /// Returns the code of a cause, as it is printed.
 pub fn code_word(cause: Cause) -> &'static str
@@ -41,5 +41,5 @@ pub fn topic_of(cause: Cause) -> &'static str {
 
 /// Returns the advice of `explain`: what to write instead.
 pub fn hint(cause: Cause) -> &'static str {
-    to_do(topic_of(cause))
+    advice_of(topic_of(cause))
 }

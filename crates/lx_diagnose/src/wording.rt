@@ -119,7 +119,7 @@ fn push_phrase(text: &mut Vec<u8>, phrase: &[u8], fillings: &Fillings) -> Result
 }
 
 /// Returns bytes as they are shown. Err: an allocation failed.
-pub fn printed(alloc: Global, bytes: &[u8]) -> Result<Vec<u8>, AllocError>
+pub fn shown_bytes(alloc: Global, bytes: &[u8]) -> Result<Vec<u8>, AllocError>
     ensures value { IfOk result (λ words. words.items ≡ specs.shown bytes.now) }
     ensures printed { IfOk result (λ words. ArePrinted words.items) }
 {
@@ -129,7 +129,7 @@ pub fn printed(alloc: Global, bytes: &[u8]) -> Result<Vec<u8>, AllocError>
 }
 
 /// Fills a phrase.
-pub fn filled(alloc: Global, phrase: &[u8], fillings: &Fillings) -> Result<Vec<u8>, AllocError>
+pub fn fill(alloc: Global, phrase: &[u8], fillings: &Fillings) -> Result<Vec<u8>, AllocError>
     ensures value { IfOk result (λ words.
         words.items
         ≡ specs.filled fillings.now.name.now fillings.now.other.now fillings.now.line
@@ -142,7 +142,7 @@ pub fn filled(alloc: Global, phrase: &[u8], fillings: &Fillings) -> Result<Vec<u
 }
 
 /// Returns the words, or `?` if they are empty.
-pub fn told(mut words: Vec<u8>) -> Result<Vec<u8>, AllocError>
+pub fn or_question_mark(mut words: Vec<u8>) -> Result<Vec<u8>, AllocError>
     requires { ArePrinted words.items }
     ensures printed { IfOk result (λ told. ArePrinted told.items) }
     ensures some { IfOk result (λ told. 0 < length told.items) }
@@ -161,14 +161,14 @@ pub fn sentence(alloc: Global, diagnosis: &Diagnosis, text: &[u8]) -> Result<Vec
     let phrase = phrase_of(diagnosis.cause).as_bytes();
     if phrase.is_empty() {
         let said = words_of(topic_of(diagnosis.cause));
-        let words = printed(alloc, said.as_bytes())?;
-        return told(words);
+        let words = shown_bytes(alloc, said.as_bytes())?;
+        return or_question_mark(words);
     }
     let fillings = Fillings {
         name: part(text, diagnosis.name),
         other: part(text, diagnosis.other),
         line: line_number(text, diagnosis.other.start),
     };
-    let words = filled(alloc, phrase, &fillings)?;
-    told(words)
+    let words = fill(alloc, phrase, &fillings)?;
+    or_question_mark(words)
 }

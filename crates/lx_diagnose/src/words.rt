@@ -3,7 +3,7 @@
 use crate::places::{Span, between};
 use crate::scan::{is_at, part};
 use lx_spec::action::{Turn, turn_at};
-use lx_spec::word::{Piece, Word, piece_at};
+use lx_spec::word::{Word, WordConstruct, piece_at};
 use std::alloc::{AllocError, Global};
 
 /// The words of an action with their places, and the position where the text stops being words, if it does.
@@ -15,7 +15,7 @@ pub struct PlacedWords<'t> {
 }
 
 // Skips a CR before an LF. The lines of an action are joined by LF only.
-fn behind_return<'t>(text: &[u8], at: usize, rest: &'t [u8]) -> Option<&'t [u8]> {
+fn skip_return<'t>(text: &[u8], at: usize, rest: &'t [u8]) -> Option<&'t [u8]> {
     if is_at(text, at, b'\r') && is_at(text, at.saturating_add(1), b'\n') && !rest.is_empty() {
         Some(&rest[1..])
     } else {
@@ -37,14 +37,14 @@ pub fn words_of<'t>(
     for _ in 0..=action.len {
         let at = end.saturating_sub(rest.len());
         match piece_at(rest) {
-            Piece::Ended => break,
-            Piece::Passed(behind) => rest = behind,
-            Piece::Found(word, behind) => {
+            WordConstruct::Ended => break,
+            WordConstruct::Passed(behind) => rest = behind,
+            WordConstruct::Found(word, behind) => {
                 words.push(word)?;
                 places.push(between(at, end.saturating_sub(behind.len())))?;
                 rest = behind;
             }
-            Piece::NoWord => match behind_return(text, at, rest) {
+            WordConstruct::NoWord => match skip_return(text, at, rest) {
                 Some(behind) => rest = behind,
                 None => {
                     stop = Some(at);
@@ -100,7 +100,7 @@ pub(crate) fn place_at(words: &PlacedWords, number: usize, end: usize) -> Span {
 }
 
 /// Returns the position after the previous word.
-pub(crate) fn behind_word_before(words: &PlacedWords, number: usize) -> usize {
+pub(crate) fn end_of_previous(words: &PlacedWords, number: usize) -> usize {
     if number == 0 || number > words.places.len() {
         0
     } else {

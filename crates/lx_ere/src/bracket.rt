@@ -10,7 +10,7 @@ ghost use Rattle.lx_ere.specs.Tokens.{position_of, ranges_of};
 
 use crate::escape::escape_at;
 use crate::name::name_run;
-use crate::prefix::{begins_pair, begins_with, behind_byte, skip};
+use crate::prefix::{begins_pair, begins_with, skip, strip_byte};
 use crate::set::ByteSet;
 
 /// A position in the brackets.
@@ -77,7 +77,7 @@ fn marked_byte_at(mark: u8, text: &[u8]) -> Option<(u8, &[u8])>
     if *byte == b'\n' {
         return None;
     }
-    let behind = behind_byte(b']', behind_byte(mark, rest)?)?;
+    let behind = strip_byte(b']', strip_byte(mark, rest)?)?;
     Some((*byte, behind))
 }
 
@@ -184,7 +184,7 @@ fn class_at(text: &[u8]) -> Option<(Member, &[u8])>
 {
     let n = name_run(text);
     let ranges = class_ranges(&text[..n])?;
-    let behind = behind_byte(b']', behind_byte(b':', skip(n, text))?)?;
+    let behind = strip_byte(b']', strip_byte(b':', skip(n, text))?)?;
     Some((Member::Class(ranges), behind))
 }
 
@@ -216,7 +216,7 @@ fn insert_member(set: &mut ByteSet, member: Member)
 }
 
 /// Adds the bytes of the members up to the closing bracket to a set.
-fn members_behind(mut set: ByteSet, text: &[u8]) -> Option<(ByteSet, &[u8])>
+fn read_members(mut set: ByteSet, text: &[u8]) -> Option<(ByteSet, &[u8])>
     ensures { (test : ℕ → Bool) → set ≡ bytes_where test →
         option_map (λ f. (f.0, f.1.now)) result ≡ option_map (with_members test) (all_items_at (member_at inside) 93 text.now) }
 {
@@ -241,7 +241,7 @@ fn members_at(position: BracketPosition, text: &[u8]) -> Option<(ByteSet, &[u8])
     };
     let mut set = ByteSet::empty();
     insert_member(&mut set, first);
-    members_behind(set, rest)
+    read_members(set, rest)
 }
 
 /// Reads a bracket expression, starting after its `[`. Returns its set with the text after it.

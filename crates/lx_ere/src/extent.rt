@@ -8,7 +8,7 @@ ghost use Rattle.lx_ere.specs.PatternGrammar.{BehindQuotes, BehindMark, BehindBr
 use crate::prefix::{begins_with, skip};
 
 /// Returns the text after a quoted string, starting after its opening quote.
-fn behind_quotes(text: &[u8]) -> &[u8]
+fn skip_quotes(text: &[u8]) -> &[u8]
     ensures behind { BehindQuotes text.now result.now }
     ensures shorter { length result.now ≤ length text.now }
 {
@@ -34,7 +34,7 @@ fn closes(mark: u8, first: u8, behind: &[u8]) -> bool
 }
 
 /// Returns the text after the first mark that a `]` follows directly.
-fn behind_mark(mark: u8, text: &[u8]) -> &[u8]
+fn skip_to_closing_mark(mark: u8, text: &[u8]) -> &[u8]
     ensures behind { BehindMark mark text.now result.now }
     ensures shorter { length result.now ≤ length text.now }
 {
@@ -62,7 +62,7 @@ fn inner_mark(first: u8, behind: &[u8]) -> Option<u8>
 }
 
 /// Returns the text after brackets, starting after their first `^` and `]`.
-fn behind_brackets(text: &[u8]) -> &[u8]
+fn skip_brackets(text: &[u8]) -> &[u8]
     ensures behind { BehindBrackets text.now result.now }
     ensures shorter { length result.now ≤ length text.now }
 {
@@ -76,7 +76,7 @@ fn behind_brackets(text: &[u8]) -> &[u8]
             continue;
         }
         rest = match inner_mark(*first, behind) {
-            Some(mark) => behind_mark(mark, skip(2, behind)),
+            Some(mark) => skip_to_closing_mark(mark, skip(2, behind)),
             None => behind,
         };
     }
@@ -102,7 +102,7 @@ fn is_blank(c: u8) -> bool
 }
 
 /// Returns the text from the first blank on that is in no escape, quotes or brackets.
-fn behind_pattern(text: &[u8]) -> &[u8]
+fn skip_pattern(text: &[u8]) -> &[u8]
     ensures behind { BehindPattern text.now result.now }
     ensures shorter { length result.now ≤ length text.now }
 {
@@ -113,8 +113,8 @@ fn behind_pattern(text: &[u8]) -> &[u8]
         }
         rest = match *first {
             b'\\' => skip(1, behind),
-            b'"' => behind_quotes(behind),
-            b'[' => behind_brackets(skip_first(b']', skip_first(b'^', behind))),
+            b'"' => skip_quotes(behind),
+            b'[' => skip_brackets(skip_first(b']', skip_first(b'^', behind))),
             _ => behind,
         };
     }
@@ -131,7 +131,7 @@ pub fn pattern_end(text: &[u8]) -> usize
     ensures end { IsPatternEnd text.now result }
     ensures within { result ≤ length text.now }
 {
-    text.len() - behind_pattern(text).len()
+    text.len() - skip_pattern(text).len()
 }
 
 /// States a law: a pattern has one end in a text.

@@ -123,7 +123,7 @@ fn push_unit(alloc: Global, groups: Groups, unit: Expr) -> Result<Groups, AllocE
 }
 
 /// Joins the bytes of a quoted string, one after the other.
-fn joined(alloc: Global, first: u8, more: &[u8]) -> Result<Expr, AllocError>
+fn join_bytes(alloc: Global, first: u8, more: &[u8]) -> Result<Expr, AllocError>
     ensures { IfOk result (λ e. regex_of e ≡ joined (one_of (byte_set first)) more.now) }
 {
     let mut string = Expr::Set(ByteSet::of(first));
@@ -136,7 +136,7 @@ fn joined(alloc: Global, first: u8, more: &[u8]) -> Result<Expr, AllocError>
 }
 
 /// Repeats the last unit.
-fn again(
+fn repeat_last(
     alloc: Global,
     groups: Groups,
     low: u8,
@@ -259,16 +259,16 @@ pub(crate) fn step(
     match lexeme {
         Lexeme::Set(set) => Ok(Some(push_unit(alloc, groups, Expr::Set(set))?)),
         Lexeme::Quoted(first, more) => {
-            let string = joined(alloc, first, more.as_slice())?;
+            let string = join_bytes(alloc, first, more.as_slice())?;
             Ok(Some(push_unit(alloc, groups, string)?))
         }
         Lexeme::Name(name) => Ok(Some(push_unit(alloc, groups, Expr::Name(name))?)),
         Lexeme::Interval(low, high) => repeat_branch(alloc, groups, low, high),
         Lexeme::OpenGroup => Ok(Some(open_group(groups)?)),
         Lexeme::CloseGroup => close_group(alloc, groups),
-        Lexeme::Star => again(alloc, groups, 0, None),
-        Lexeme::Plus => again(alloc, groups, 1, None),
-        Lexeme::Question => again(alloc, groups, 0, Some(1)),
+        Lexeme::Star => repeat_last(alloc, groups, 0, None),
+        Lexeme::Plus => repeat_last(alloc, groups, 1, None),
+        Lexeme::Question => repeat_last(alloc, groups, 0, Some(1)),
         Lexeme::Bar => next_alternative(alloc, groups),
     }
 }

@@ -9,7 +9,7 @@ ghost use Rattle.lx_ere.specs.Lexemes.{lexeme_of};
 use crate::bracket::bracket_at;
 use crate::escape::{digit_run, escape_at, is_digit, number_at};
 use crate::name::{is_identifier, name_run};
-use crate::prefix::{begins_with, behind_byte, skip};
+use crate::prefix::{begins_with, skip, strip_byte};
 use crate::set::ByteSet;
 use std::alloc::{AllocError, Global};
 
@@ -129,7 +129,7 @@ fn name_at(alloc: Global, text: &[u8]) -> Result<Option<(Lexeme, &[u8])>, AllocE
     if !is_identifier(name) {
         return Ok(None);
     }
-    match behind_byte(b'}', skip(n, text)) {
+    match strip_byte(b'}', skip(n, text)) {
         Some(behind) => {
             let name = Vec::from_slice(alloc, name)?;
             Ok(Some((Lexeme::Name(name), behind)))
@@ -147,7 +147,7 @@ fn bound_at(text: &[u8]) -> Option<(u8, &[u8])>
 }
 
 /// Reads the rest of an interval after its comma.
-fn behind_comma_at(low: u8, text: &[u8]) -> Option<(Lexeme, &[u8])>
+fn rest_of_interval(low: u8, text: &[u8]) -> Option<(Lexeme, &[u8])>
     ensures { option_map (λ f. (lexeme_of f.0, f.1.now)) result ≡ behind_comma_at low text.now }
 {
     if begins_with(b'}', text) {
@@ -157,18 +157,18 @@ fn behind_comma_at(low: u8, text: &[u8]) -> Option<(Lexeme, &[u8])>
     if low > high {
         return None;
     }
-    let behind = behind_byte(b'}', rest)?;
+    let behind = strip_byte(b'}', rest)?;
     Some((Lexeme::Interval(low, Some(high)), behind))
 }
 
 /// Reads the rest of an interval after its first bound.
-fn behind_low_at(low: u8, text: &[u8]) -> Option<(Lexeme, &[u8])>
+fn bounds_after_low(low: u8, text: &[u8]) -> Option<(Lexeme, &[u8])>
     ensures { option_map (λ f. (lexeme_of f.0, f.1.now)) result ≡ behind_low_at (low, text.now) }
 {
     if begins_with(b'}', text) {
         Some((Lexeme::Interval(low, Some(low)), skip(1, text)))
     } else {
-        behind_comma_at(low, behind_byte(b',', text)?)
+        rest_of_interval(low, strip_byte(b',', text)?)
     }
 }
 
@@ -177,7 +177,7 @@ fn interval_at(text: &[u8]) -> Option<(Lexeme, &[u8])>
     ensures { option_map (λ f. (lexeme_of f.0, f.1.now)) result ≡ interval_at text.now }
 {
     let (low, rest) = bound_at(text)?;
-    behind_low_at(low, rest)
+    bounds_after_low(low, rest)
 }
 
 /// Returns true if the text begins with a decimal digit.

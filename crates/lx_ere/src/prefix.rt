@@ -30,7 +30,7 @@ pub(crate) fn begins_pair(c: u8, d: u8, text: &[u8]) -> bool
 }
 
 /// Returns the text after the byte, if it begins with it.
-pub(crate) fn behind_byte(c: u8, text: &[u8]) -> Option<&[u8]>
+pub(crate) fn strip_byte(c: u8, text: &[u8]) -> Option<&[u8]>
     ensures { option_map (λ r. r.now) result ≡ behind_byte c text.now }
 {
     let (first, rest) = text.split_first()?;

@@ -45,7 +45,7 @@ fn read_alternation(alloc: Global, text: &[u8]) -> Result<(Expr, &[u8]), EreFaul
 }
 
 /// Skips a `^` at the start.
-fn behind_caret(text: &[u8]) -> &[u8]
+fn strip_caret(text: &[u8]) -> &[u8]
     ensures { result.now ≡ body_of text.now }
 {
     if begins_with(b'^', text) {
@@ -81,7 +81,7 @@ pub fn read_pattern(alloc: Global, text: &[u8]) -> Result<Pattern, EreFault>
         return Err(EreFault::NoReading);
     }
     let line_begin = begins_with(b'^', text);
-    let (expr, ending) = read_alternation(alloc, behind_caret(text))?;
+    let (expr, ending) = read_alternation(alloc, strip_caret(text))?;
     match ending_at(ending) {
         Some(line_end) => Ok(Pattern {
             line_begin,

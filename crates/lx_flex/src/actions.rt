@@ -1,14 +1,14 @@
 //! Actions, with the parts that lx supports (flex's manual, "Actions").
 
-use crate::conditions::{StartCondition, place_of};
+use crate::conditions::{FlexCondition, place_of};
 use crate::cursor::front;
-use crate::report::Cause;
+use crate::report::ImportCause;
 use crate::tokens::{Token, Tokens};
 use std::alloc::{AllocError, Global};
 
 /// A step of an action.
 #[derive(Drop)]
-pub(crate) enum Step {
+pub(crate) enum ActionStep {
     /// `ECHO`.
     Echo,
     /// `BEGIN` of the condition with this number.
@@ -19,18 +19,18 @@ pub(crate) enum Step {
 
 /// An action.
 #[derive(Drop)]
-pub(crate) enum Action {
+pub(crate) enum FlexAction {
     /// `|`, the action of the next rule.
     Bar,
     /// Steps that lx supports too.
-    Steps(Vec<Step>),
+    Steps(Vec<ActionStep>),
     /// C text.
     Code {
         text: Vec<u8>,
         /// Line on which the text begins.
         line: u32,
         /// Conditions that the text begins unconditionally.
-        begins: Vec<Step>,
+        begins: Vec<ActionStep>,
         /// Constructs that lx can't do, in the order of the text.
         problems: Vec<Problem>,
     },
@@ -40,7 +40,7 @@ pub(crate) enum Action {
 #[derive(Clone, Copy, PartialEq, Eq)]
 pub(crate) struct Problem {
     pub(crate) line: u32,
-    pub(crate) cause: Cause,
+    pub(crate) cause: ImportCause,
 }
 
 /// Returns true if the bytes are a decimal number below 2,147,483,648 without a leading zero.
@@ -123,7 +123,7 @@ fn operand<'a>(tokens: &mut Tokens<'a>) -> Option<Token<'a>> {
 }
 
 /// Returns the condition of a `BEGIN`.
-fn begun(conditions: &[StartCondition], token: Token) -> Option<u16> {
+fn begin_target(conditions: &[FlexCondition], token: Token) -> Option<u16> {
     match token {
         Token::Word(word) => place_of(conditions, word),
         _ => None,
@@ -134,12 +134,12 @@ fn begun(conditions: &[StartCondition], token: Token) -> Option<u16> {
 fn step_of(
     alloc: Global,
     tokens: &mut Tokens,
-    conditions: &[StartCondition],
+    conditions: &[FlexCondition],
     word: &[u8],
-) -> Result<Option<Step>, AllocError> {
+) -> Result<Option<ActionStep>, AllocError> {
     if word == b"ECHO".as_slice() {
         return Ok(if tokens.next() == Some(Token::Mark(b';')) {
-            Some(Step::Echo)
+            Some(ActionStep::Echo)
         } else {
             None
         });
@@ -148,7 +148,7 @@ fn step_of(
         let Some(token) = operand(tokens) else {
             return Ok(None);
         };
-        return Ok(begun(conditions, token).map(|place| Step::Begin(place)));
+        return Ok(begin_target(conditions, token).map(|place| ActionStep::Begin(place)));
     }
     if word != b"return".as_slice() {
         return Ok(None);
@@ -157,7 +157,7 @@ fn step_of(
         return Ok(None);
     };
     match kind_of(token) {
-        Some(kind) => Ok(Some(Step::Return(Vec::from_slice(alloc, kind)?))),
+        Some(kind) => Ok(Some(ActionStep::Return(Vec::from_slice(alloc, kind)?))),
         None => Ok(None),
     }
 }
@@ -166,8 +166,8 @@ fn step_of(
 fn steps_of(
     alloc: Global,
     text: &[u8],
-    conditions: &[StartCondition],
-) -> Result<Option<Vec<Step>>, AllocError> {
+    conditions: &[FlexCondition],
+) -> Result<Option<Vec<ActionStep>>, AllocError> {
     let mut tokens = Tokens::new(text);
     let mut steps = Vec::new(alloc);
     let mut open: u32 = 0;
@@ -187,7 +187,7 @@ fn steps_of(
                 let Some(step) = step_of(alloc, &mut tokens, conditions, word)? else {
                     return Ok(None);
                 };
-                let last = matches!(step, Step::Return(_));
+                let last = matches!(step, ActionStep::Return(_));
                 if !returned {
                     steps.push(step)?;
                 }
@@ -200,37 +200,37 @@ fn steps_of(
 }
 
 /// flex functions that lx can't do, with the causes that are reported.
-const PROBLEMS: &[(&[u8], Cause)] = &[
-    (b"yymore", Cause::More),
-    (b"yyless", Cause::Less),
-    (b"unput", Cause::Unput),
-    (b"yyunput", Cause::Unput),
-    (b"input", Cause::Input),
-    (b"yyinput", Cause::Input),
-    (b"yyterminate", Cause::Terminate),
-    (b"yy_push_state", Cause::StateStack),
-    (b"yy_pop_state", Cause::StateStack),
-    (b"yy_top_state", Cause::StateStack),
-    (b"yyrestart", Cause::OtherBuffer),
-    (b"yy_switch_to_buffer", Cause::OtherBuffer),
-    (b"yypush_buffer_state", Cause::OtherBuffer),
-    (b"yypop_buffer_state", Cause::OtherBuffer),
-    (b"yy_scan_string", Cause::OtherBuffer),
-    (b"yy_scan_bytes", Cause::OtherBuffer),
-    (b"yy_scan_buffer", Cause::OtherBuffer),
-    (b"yy_flush_buffer", Cause::OtherBuffer),
-    (b"yy_set_bol", Cause::LineBegin),
+const PROBLEMS: &[(&[u8], ImportCause)] = &[
+    (b"yymore", ImportCause::More),
+    (b"yyless", ImportCause::Less),
+    (b"unput", ImportCause::Unput),
+    (b"yyunput", ImportCause::Unput),
+    (b"input", ImportCause::Input),
+    (b"yyinput", ImportCause::Input),
+    (b"yyterminate", ImportCause::Terminate),
+    (b"yy_push_state", ImportCause::StateStack),
+    (b"yy_pop_state", ImportCause::StateStack),
+    (b"yy_top_state", ImportCause::StateStack),
+    (b"yyrestart", ImportCause::OtherBuffer),
+    (b"yy_switch_to_buffer", ImportCause::OtherBuffer),
+    (b"yypush_buffer_state", ImportCause::OtherBuffer),
+    (b"yypop_buffer_state", ImportCause::OtherBuffer),
+    (b"yy_scan_string", ImportCause::OtherBuffer),
+    (b"yy_scan_bytes", ImportCause::OtherBuffer),
+    (b"yy_scan_buffer", ImportCause::OtherBuffer),
+    (b"yy_flush_buffer", ImportCause::OtherBuffer),
+    (b"yy_set_bol", ImportCause::LineBegin),
 ];
 
 /// flex macros without arguments that lx can't do, with the causes that are reported.
-const MACRO_PROBLEMS: &[(&[u8], Cause)] = &[
-    (b"REJECT", Cause::Reject),
-    (b"YY_FLUSH_BUFFER", Cause::OtherBuffer),
-    (b"YY_NEW_FILE", Cause::OtherBuffer),
+const MACRO_PROBLEMS: &[(&[u8], ImportCause)] = &[
+    (b"REJECT", ImportCause::Reject),
+    (b"YY_FLUSH_BUFFER", ImportCause::OtherBuffer),
+    (b"YY_NEW_FILE", ImportCause::OtherBuffer),
 ];
 
 /// Returns the cause of a word in a table.
-fn cause_in(table: &[(&[u8], Cause)], word: &[u8]) -> Option<Cause> {
+fn cause_in(table: &[(&[u8], ImportCause)], word: &[u8]) -> Option<ImportCause> {
     for (name, cause) in table {
         if word == *name {
             return Some(*cause);
@@ -240,7 +240,7 @@ fn cause_in(table: &[(&[u8], Cause)], word: &[u8]) -> Option<Cause> {
 }
 
 /// Returns the cause if lx can't do the flex construct of this word. `called` is true if a parenthesis follows.
-fn problem_of(word: &[u8], called: bool) -> Option<Cause> {
+fn problem_of(word: &[u8], called: bool) -> Option<ImportCause> {
     match cause_in(MACRO_PROBLEMS, word) {
         Some(cause) => Some(cause),
         None => {
@@ -283,17 +283,17 @@ fn is_branching_mark(mark: u8) -> bool {
 
 /// The findings in C text.
 #[derive(Drop)]
-struct Found {
+struct CodeFindings {
     /// Line on which the text begins.
     first_line: u32,
-    begins: Vec<Step>,
+    begins: Vec<ActionStep>,
     problems: Vec<Problem>,
     /// True if the rest of the text may be skipped at run time.
     branching: bool,
 }
 
 /// Adds a problem, once for each line.
-fn note(found: &mut Found, line: u32, cause: Cause) -> Result<(), AllocError> {
+fn note(found: &mut CodeFindings, line: u32, cause: ImportCause) -> Result<(), AllocError> {
     let problem = Problem { line, cause };
     if !found.problems.as_slice().contains(&problem) {
         found.problems.push(problem)?;
@@ -303,30 +303,30 @@ fn note(found: &mut Found, line: u32, cause: Cause) -> Result<(), AllocError> {
 
 /// Notes the effect of a `BEGIN` in C text.
 fn note_begin(
-    found: &mut Found,
+    found: &mut CodeFindings,
     tokens: &mut Tokens,
-    conditions: &[StartCondition],
+    conditions: &[FlexCondition],
 ) -> Result<(), AllocError> {
     let line = tokens.line_from(found.first_line);
     let place = match operand(tokens) {
-        Some(token) => begun(conditions, token),
+        Some(token) => begin_target(conditions, token),
         None => None,
     };
     let Some(place) = place else {
-        return note(found, line, Cause::UnknownBegin);
+        return note(found, line, ImportCause::UnknownBegin);
     };
     if found.branching {
-        return note(found, line, Cause::ConditionalBegin);
+        return note(found, line, ImportCause::ConditionalBegin);
     }
-    found.begins.push(Step::Begin(place))?;
+    found.begins.push(ActionStep::Begin(place))?;
     Ok(())
 }
 
 /// Notes a word of C text. `member` is true if it comes after `.` or `->`.
 fn note_word(
-    found: &mut Found,
+    found: &mut CodeFindings,
     tokens: &mut Tokens,
-    conditions: &[StartCondition],
+    conditions: &[FlexCondition],
     word: &[u8],
     member: bool,
 ) -> Result<(), AllocError> {
@@ -352,10 +352,10 @@ fn look_through(
     alloc: Global,
     text: &[u8],
     line: u32,
-    conditions: &[StartCondition],
+    conditions: &[FlexCondition],
     branching: bool,
-) -> Result<Found, AllocError> {
-    let mut found = Found {
+) -> Result<CodeFindings, AllocError> {
+    let mut found = CodeFindings {
         first_line: line,
         begins: Vec::new(alloc),
         problems: Vec::new(alloc),
@@ -390,18 +390,18 @@ pub(crate) fn action_of(
     alloc: Global,
     text: &[u8],
     line: u32,
-    conditions: &[StartCondition],
-) -> Result<Action, AllocError> {
+    conditions: &[FlexCondition],
+) -> Result<FlexAction, AllocError> {
     if let Some(steps) = steps_of(alloc, text, conditions)? {
-        return Ok(Action::Steps(steps));
+        return Ok(FlexAction::Steps(steps));
     }
-    let Found {
+    let CodeFindings {
         first_line: _,
         begins,
         problems,
         branching: _,
     } = look_through(alloc, text, line, conditions, false)?;
-    Ok(Action::Code {
+    Ok(FlexAction::Code {
         text: Vec::from_slice(alloc, text)?,
         line,
         begins,
@@ -414,13 +414,14 @@ pub(crate) fn problems_before_rules(
     alloc: Global,
     text: &[u8],
     line: u32,
-    conditions: &[StartCondition],
+    conditions: &[FlexCondition],
 ) -> Result<Vec<Problem>, AllocError> {
     let found = look_through(alloc, text, line, conditions, true)?;
     let mut problems = Vec::new(alloc);
     for problem in found.problems.as_slice() {
         let cause = match problem.cause {
-            Cause::ConditionalBegin | Cause::UnknownBegin => Cause::BeginBeforeRules,
+            ImportCause::ConditionalBegin | ImportCause::UnknownBegin =>
+                ImportCause::BeginBeforeRules,
             other => other,
         };
         problems.push(Problem { cause, ..*problem })?;

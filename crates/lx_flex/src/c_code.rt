@@ -1,11 +1,11 @@
 //! Finds the end of C text in a file (flex's manual, "Format of the Input File", "Actions").
 
-use crate::cursor::{Cursor, between, front, place_of, skip};
-use crate::report::{Cause, Stop, stopped};
+use crate::cursor::{TextCursor, between, front, place_of, skip};
+use crate::report::{ImportCause, ReadFault, stop};
 
 /// The construct of C text that a byte is in.
 #[derive(Clone, Copy, PartialEq, Eq)]
-enum Place {
+enum CodePlace {
     Code,
     String,
     Character,
@@ -15,7 +15,7 @@ enum Place {
 /// The state of a scan of C text.
 #[derive(Clone, Copy)]
 struct Scan {
-    place: Place,
+    place: CodePlace,
     /// Number of open braces. flex counts closing ones below zero too.
     open: i64,
     /// True if a backslash escapes the next byte.
@@ -25,41 +25,41 @@ struct Scan {
 }
 
 /// Returns the construct after a byte of code.
-fn behind_code(before: u8, byte: u8) -> Place {
+fn place_after_code(before: u8, byte: u8) -> CodePlace {
     if byte == b'"' {
-        Place::String
+        CodePlace::String
     } else if byte == b'\'' {
-        Place::Character
+        CodePlace::Character
     } else if byte == b'*' && before == b'/' {
-        Place::Comment
+        CodePlace::Comment
     } else {
-        Place::Code
+        CodePlace::Code
     }
 }
 
 /// Returns the construct after a byte that isn't escaped.
-fn behind(scan: Scan, byte: u8) -> Place {
+fn after_byte(scan: Scan, byte: u8) -> CodePlace {
     match scan.place {
-        Place::Code => behind_code(scan.before, byte),
-        Place::String => {
+        CodePlace::Code => place_after_code(scan.before, byte),
+        CodePlace::String => {
             if byte == b'"' || byte == b'\n' {
-                Place::Code
+                CodePlace::Code
             } else {
-                Place::String
+                CodePlace::String
             }
         }
-        Place::Character => {
+        CodePlace::Character => {
             if byte == b'\'' || byte == b'\n' {
-                Place::Code
+                CodePlace::Code
             } else {
-                Place::Character
+                CodePlace::Character
             }
         }
-        Place::Comment => {
+        CodePlace::Comment => {
             if byte == b'/' && scan.before == b'*' {
-                Place::Code
+                CodePlace::Code
             } else {
-                Place::Comment
+                CodePlace::Comment
             }
         }
     }
@@ -67,7 +67,7 @@ fn behind(scan: Scan, byte: u8) -> Place {
 
 /// Returns the state after a byte.
 fn next_scan(scan: Scan, byte: u8) -> Scan {
-    let quoted = scan.place == Place::String || scan.place == Place::Character;
+    let quoted = scan.place == CodePlace::String || scan.place == CodePlace::Character;
     if quoted && scan.escaped {
         return Scan {
             escaped: false,
@@ -75,7 +75,7 @@ fn next_scan(scan: Scan, byte: u8) -> Scan {
             ..scan
         };
     }
-    let open = if scan.place != Place::Code {
+    let open = if scan.place != CodePlace::Code {
         scan.open
     } else if byte == b'{' {
         scan.open.saturating_add(1)
@@ -84,7 +84,7 @@ fn next_scan(scan: Scan, byte: u8) -> Scan {
     } else {
         scan.open
     };
-    let place = behind(scan, byte);
+    let place = after_byte(scan, byte);
     Scan {
         place,
         open,
@@ -96,13 +96,13 @@ fn next_scan(scan: Scan, byte: u8) -> Scan {
 
 /// Returns true if the action ends before this newline.
 fn ends_here(scan: Scan) -> bool {
-    scan.open <= 0 && scan.place != Place::Comment && !scan.escaped
+    scan.open <= 0 && scan.place != CodePlace::Comment && !scan.escaped
 }
 
 /// Returns the number of bytes of an action, up to the first line end with no brace or comment open. Returns `None` if the action isn't closed.
 fn action_length(text: &[u8]) -> Option<usize> {
     let mut scan = Scan {
-        place: Place::Code,
+        place: CodePlace::Code,
         open: 0,
         escaped: false,
         before: 0,
@@ -119,20 +119,20 @@ fn action_length(text: &[u8]) -> Option<usize> {
 }
 
 /// Takes the C text of an action, from here to its end. The next line follows.
-pub(crate) fn take_action<'a>(cursor: &mut Cursor<'a>) -> Result<&'a [u8], Stop> {
+pub(crate) fn take_action<'a>(cursor: &mut TextCursor<'a>) -> Result<&'a [u8], ReadFault> {
     let rest = cursor.rest();
     let Some(length) = action_length(rest) else {
-        return stopped(cursor.line, Cause::NotClosed);
+        return stop(cursor.line, ImportCause::NotClosed);
     };
     cursor.advance(length.saturating_add(1));
     Ok(front(length, rest))
 }
 
 /// Takes the C text up to `%}`, starting after `%{`. The line after that of `%}` follows.
-pub(crate) fn take_block<'a>(cursor: &mut Cursor<'a>) -> Result<&'a [u8], Stop> {
+pub(crate) fn take_block<'a>(cursor: &mut TextCursor<'a>) -> Result<&'a [u8], ReadFault> {
     let rest = cursor.rest();
     let Some(length) = place_of(rest, b"%}") else {
-        return stopped(cursor.line, Cause::NotClosed);
+        return stop(cursor.line, ImportCause::NotClosed);
     };
     cursor.advance(length);
     cursor.skip_line();
@@ -140,7 +140,7 @@ pub(crate) fn take_block<'a>(cursor: &mut Cursor<'a>) -> Result<&'a [u8], Stop> 
 }
 
 /// Skips to the line after the one that begins with `%}`.
-pub(crate) fn skip_block(cursor: &mut Cursor) -> Result<(), Stop> {
+pub(crate) fn skip_block(cursor: &mut TextCursor) -> Result<(), ReadFault> {
     let line = cursor.line;
     cursor.skip_line();
     for _ in 0..cursor.text.len() {
@@ -153,13 +153,13 @@ pub(crate) fn skip_block(cursor: &mut Cursor) -> Result<(), Stop> {
             return Ok(());
         }
     }
-    stopped(line, Cause::NotClosed)
+    stop(line, ImportCause::NotClosed)
 }
 
 /// Skips to the line after the one with the end of a comment, starting after its `/*`.
-pub(crate) fn skip_comment(cursor: &mut Cursor) -> Result<(), Stop> {
+pub(crate) fn skip_comment(cursor: &mut TextCursor) -> Result<(), ReadFault> {
     let Some(length) = place_of(cursor.rest(), b"*/") else {
-        return stopped(cursor.line, Cause::NotClosed);
+        return stop(cursor.line, ImportCause::NotClosed);
     };
     cursor.advance(length.saturating_add(2));
     cursor.skip_line();
@@ -185,9 +185,9 @@ fn braced_length(text: &[u8]) -> Option<usize> {
 }
 
 /// Skips to the line after the one with the brace that closes `%top{`.
-pub(crate) fn skip_braces(cursor: &mut Cursor) -> Result<(), Stop> {
+pub(crate) fn skip_braces(cursor: &mut TextCursor) -> Result<(), ReadFault> {
     let Some(length) = braced_length(cursor.rest()) else {
-        return stopped(cursor.line, Cause::NotClosed);
+        return stop(cursor.line, ImportCause::NotClosed);
     };
     cursor.advance(length);
     cursor.skip_line();
@@ -228,7 +228,7 @@ pub(crate) fn lines_before(text: &[u8]) -> u32 {
 }
 
 /// Returns the text after a mark at its start.
-pub(crate) fn behind_mark<'a>(mark: &[u8], text: &'a [u8]) -> Option<&'a [u8]> {
+pub(crate) fn strip_mark<'a>(mark: &[u8], text: &'a [u8]) -> Option<&'a [u8]> {
     if front(mark.len(), text) == mark {
         Some(skip(mark.len(), text))
     } else {

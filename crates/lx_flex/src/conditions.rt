@@ -5,7 +5,7 @@ use std::alloc::{AllocError, Global};
 
 /// A start condition.
 #[derive(Drop)]
-pub(crate) struct StartCondition {
+pub(crate) struct FlexCondition {
     /// Name in flex, which may have hyphens.
     pub(crate) name: Vec<u8>,
     /// Name in lx.
@@ -14,7 +14,7 @@ pub(crate) struct StartCondition {
 }
 
 /// Returns the number of the condition with this name. `INITIAL` and `0` are the first one.
-pub(crate) fn place_of(conditions: &[StartCondition], name: &[u8]) -> Option<u16> {
+pub(crate) fn place_of(conditions: &[FlexCondition], name: &[u8]) -> Option<u16> {
     if name == b"0".as_slice() {
         return Some(0);
     }
@@ -28,7 +28,7 @@ pub(crate) fn place_of(conditions: &[StartCondition], name: &[u8]) -> Option<u16
     None
 }
 
-fn is_lx_name(conditions: &[StartCondition], name: &[u8]) -> bool {
+fn is_lx_name(conditions: &[FlexCondition], name: &[u8]) -> bool {
     for condition in conditions {
         if condition.lx_name.as_slice() == name {
             return true;
@@ -49,7 +49,7 @@ pub(crate) fn without_hyphens(alloc: Global, name: &[u8]) -> Result<Vec<u8>, All
 /// Returns a name for lx that no condition has yet.
 pub(crate) fn new_name(
     alloc: Global,
-    conditions: &[StartCondition],
+    conditions: &[FlexCondition],
     name: &[u8],
 ) -> Result<Vec<u8>, AllocError> {
     let mut renamed = without_hyphens(alloc, name)?;
@@ -82,7 +82,7 @@ pub(crate) fn name_at(text: &[u8]) -> &[u8] {
 }
 
 /// Returns the numbers that are in either list, in ascending order.
-pub(crate) fn joined(
+pub(crate) fn union(
     alloc: Global,
     count: u16,
     one: &[u16],

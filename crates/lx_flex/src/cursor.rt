@@ -32,7 +32,7 @@ pub(crate) fn blank_run(text: &[u8]) -> usize {
 }
 
 /// Returns the text without the blanks at its end.
-pub(crate) fn trimmed(text: &[u8]) -> &[u8] {
+pub(crate) fn trim_end(text: &[u8]) -> &[u8] {
     let mut end: usize = 0;
     let mut at: usize = 0;
     for byte in text {
@@ -70,13 +70,13 @@ pub(crate) fn place_of(text: &[u8], part: &[u8]) -> Option<usize> {
 
 /// A position in a text, with its line, counted from 1.
 #[derive(Clone, Copy)]
-pub(crate) struct Cursor<'a> {
+pub(crate) struct TextCursor<'a> {
     pub(crate) text: &'a [u8],
     pub(crate) at: usize,
     pub(crate) line: u32,
 }
 
-impl<'a> Cursor<'a> {
+impl<'a> TextCursor<'a> {
     /// Returns the rest of the text.
     pub(crate) fn rest(&self) -> &'a [u8] {
         skip(self.at, self.text)

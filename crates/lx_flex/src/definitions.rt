@@ -1,17 +1,17 @@
 //! The definitions section (flex's manual, "Format of the Definitions Section").
 
 use crate::c_code::{skip_block, skip_braces, skip_comment};
-use crate::conditions::{StartCondition, name_at, new_name, place_of};
-use crate::cursor::{Cursor, front, is_blank, skip, trimmed};
+use crate::conditions::{FlexCondition, name_at, new_name, place_of};
+use crate::cursor::{TextCursor, front, is_blank, skip, trim_end};
 use crate::options::read_options;
-use crate::report::{Cause, Reports, Stop, stopped};
-use lx_flex_pattern::Options;
+use crate::report::{ImportCause, ReadFault, Reports, stop};
+use lx_flex_pattern::PatternOptions;
 use lx_rules::limits::{MAX_DEFINITIONS, MAX_START_CONDITIONS};
 use std::alloc::{AllocError, Global};
 
 /// A definition, as it is written.
 #[derive(Drop)]
-pub(crate) struct RawDefinition {
+pub(crate) struct FlexDefinition {
     pub(crate) line: u32,
     pub(crate) name: Vec<u8>,
     pub(crate) text: Vec<u8>,
@@ -21,15 +21,15 @@ pub(crate) struct RawDefinition {
 #[derive(Drop)]
 pub(crate) struct Declared {
     /// `INITIAL`, and then the conditions in the order of their declaration.
-    pub(crate) conditions: Vec<StartCondition>,
-    pub(crate) definitions: Vec<RawDefinition>,
-    pub(crate) options: Options,
+    pub(crate) conditions: Vec<FlexCondition>,
+    pub(crate) definitions: Vec<FlexDefinition>,
+    pub(crate) options: PatternOptions,
 }
 
 /// Returns the declarations before any line is read: only `INITIAL`.
 pub(crate) fn nothing_declared(alloc: Global) -> Result<Declared, AllocError> {
     let mut conditions = Vec::new(alloc);
-    conditions.push(StartCondition {
+    conditions.push(FlexCondition {
         name: Vec::from_slice(alloc, b"INITIAL")?,
         lx_name: Vec::from_slice(alloc, b"INITIAL")?,
         exclusive: false,
@@ -37,7 +37,7 @@ pub(crate) fn nothing_declared(alloc: Global) -> Result<Declared, AllocError> {
     Ok(Declared {
         conditions,
         definitions: Vec::new(alloc),
-        options: Options {
+        options: PatternOptions {
             fold: false,
             posix: false,
             bare_names: false,
@@ -65,16 +65,16 @@ fn add_condition(
     line: u32,
     name: &[u8],
     exclusive: bool,
-) -> Result<(), Stop> {
+) -> Result<(), ReadFault> {
     if is_condition(declared, name) {
-        reports.add(line, Cause::Twice, true)?;
+        reports.add(line, ImportCause::Twice, true)?;
         return Ok(());
     }
     if declared.conditions.len() >= MAX_START_CONDITIONS {
-        return stopped(line, Cause::TooMany);
+        return stop(line, ImportCause::TooMany);
     }
     let lx_name = new_name(alloc, declared.conditions.as_slice(), name)?;
-    declared.conditions.push(StartCondition {
+    declared.conditions.push(FlexCondition {
         name: Vec::from_slice(alloc, name)?,
         lx_name,
         exclusive,
@@ -85,11 +85,11 @@ fn add_condition(
 /// Reads the names after `%s` or `%x`.
 fn read_conditions(
     alloc: Global,
-    cursor: &mut Cursor,
+    cursor: &mut TextCursor,
     declared: &mut Declared,
     reports: &mut Reports,
     exclusive: bool,
-) -> Result<(), Stop> {
+) -> Result<(), ReadFault> {
     let line = cursor.line_rest();
     let mut rest = line;
     for _ in line {
@@ -99,7 +99,7 @@ fn read_conditions(
         }
         let name = name_at(rest);
         if name.is_empty() {
-            reports.add(cursor.line, Cause::BadDefinitionLine, true)?;
+            reports.add(cursor.line, ImportCause::BadDefinitionLine, true)?;
             break;
         }
         add_condition(alloc, declared, reports, cursor.line, name, exclusive)?;
@@ -112,22 +112,22 @@ fn read_conditions(
 /// Reads the line of a definition.
 fn read_definition(
     alloc: Global,
-    cursor: &mut Cursor,
+    cursor: &mut TextCursor,
     declared: &mut Declared,
     reports: &mut Reports,
-) -> Result<(), Stop> {
+) -> Result<(), ReadFault> {
     let line = cursor.line_rest();
     let name = name_at(line);
     let rest = skip(name.len(), line);
-    let text = trimmed(skip(crate::cursor::blank_run(rest), rest));
+    let text = trim_end(skip(crate::cursor::blank_run(rest), rest));
     if name.is_empty() || text.is_empty() {
-        reports.add(cursor.line, Cause::BadDefinitionLine, true)?;
+        reports.add(cursor.line, ImportCause::BadDefinitionLine, true)?;
     } else if is_definition(declared, name) {
-        reports.add(cursor.line, Cause::Twice, true)?;
+        reports.add(cursor.line, ImportCause::Twice, true)?;
     } else if declared.definitions.len() >= MAX_DEFINITIONS {
-        return stopped(cursor.line, Cause::TooMany);
+        return stop(cursor.line, ImportCause::TooMany);
     } else {
-        declared.definitions.push(RawDefinition {
+        declared.definitions.push(FlexDefinition {
             line: cursor.line,
             name: Vec::from_slice(alloc, name)?,
             text: Vec::from_slice(alloc, text)?,
@@ -156,10 +156,10 @@ fn directive_length(line: &[u8]) -> usize {
 /// Reads a line that begins with `%`, but not with `%%`.
 fn read_directive(
     alloc: Global,
-    cursor: &mut Cursor,
+    cursor: &mut TextCursor,
     declared: &mut Declared,
     reports: &mut Reports,
-) -> Result<(), Stop> {
+) -> Result<(), ReadFault> {
     if cursor.begins_with(b"%{") {
         return skip_block(cursor);
     }
@@ -179,7 +179,7 @@ fn read_directive(
         return read_conditions(alloc, cursor, declared, reports, exclusive);
     }
     if !is_passed_over(letter) {
-        reports.add(cursor.line, Cause::BadDefinitionLine, true)?;
+        reports.add(cursor.line, ImportCause::BadDefinitionLine, true)?;
     }
     cursor.skip_line();
     Ok(())
@@ -197,10 +197,10 @@ fn is_line_directive(line: &[u8]) -> bool {
 /// Reads one line of the definitions section, or the construct that begins on it.
 fn read_line(
     alloc: Global,
-    cursor: &mut Cursor,
+    cursor: &mut TextCursor,
     declared: &mut Declared,
     reports: &mut Reports,
-) -> Result<(), Stop> {
+) -> Result<(), ReadFault> {
     let begins_blank = match cursor.peek_at(0) {
         Some(byte) => is_blank(byte),
         None => true,
@@ -222,9 +222,9 @@ fn read_line(
 /// Reads the definitions section, up to and including its `%%` line.
 pub(crate) fn read_definitions(
     alloc: Global,
-    cursor: &mut Cursor,
+    cursor: &mut TextCursor,
     reports: &mut Reports,
-) -> Result<Declared, Stop> {
+) -> Result<Declared, ReadFault> {
     let mut declared = nothing_declared(alloc)?;
     for _ in 0..cursor.text.len() {
         if cursor.begins_with(b"%%") {
@@ -236,5 +236,5 @@ pub(crate) fn read_definitions(
         }
         read_line(alloc, cursor, &mut declared, reports)?;
     }
-    stopped(cursor.line, Cause::NoRules)
+    stop(cursor.line, ImportCause::NoRules)
 }

@@ -6,12 +6,12 @@ ghost use Rattle.lx_flex.specs.views.{definition_of, rule_of};
 ghost use Rattle.lx_rules.specs.views.Conditions.{condition_view};
 
 use crate::checking::{CheckFault, check};
-use crate::cursor::Cursor;
+use crate::cursor::TextCursor;
 use crate::definitions::{Declared, read_definitions};
-use crate::judging::{ImportedRule, JudgedRule, judged};
-use crate::naming::{ImportedDefinition, Naming, naming_of};
+use crate::judging::{ImportedRule, JudgedRule, judge_rules};
+use crate::naming::{ImportedDefinition, PatternNames, naming_of};
 use crate::printing::{cases, specification};
-use crate::report::{Cause, Fault, Report, Reports, Stop, stopped};
+use crate::report::{ImportCause, ImportFault, ImportReport, ReadFault, Reports, stop};
 use crate::rules::read_rules;
 use lx_rules::Condition;
 use lx_rules::limits::MAX_SPECIFICATION_BYTES;
@@ -19,7 +19,7 @@ use std::alloc::{AllocError, Global};
 
 /// The options of an import.
 #[derive(Debug, Clone, Copy)]
-pub struct Options<'a> {
+pub struct ImportOptions<'a> {
     /// True if constructs that lx can't do are left out and reported. Otherwise the file is rejected for them.
     pub lossy: bool,
     /// Prefix of the kinds of the C text, as it is written. The kinds have it in capitals.
@@ -36,7 +36,7 @@ pub struct Imported {
     /// C text of the rules that return their numbers, as cases of a switch.
     pub cases: Vec<u8>,
     /// Remarks for the user. None of them is fatal.
-    pub reports: Vec<Report>,
+    pub reports: Vec<ImportReport>,
     /// Conditions by their names in lx, `INITIAL` first.
     pub conditions: Vec<Condition>,
     /// Definitions that lx has by a name.
@@ -47,7 +47,7 @@ pub struct Imported {
 
 /// The text that was read and printed, before lx reads it.
 #[derive(Drop)]
-struct Draft {
+struct ImportDraft {
     specification: Vec<u8>,
     cases: Vec<u8>,
     conditions: Vec<Condition>,
@@ -83,25 +83,25 @@ fn rules_of(alloc: Global, rules: Vec<JudgedRule>) -> Result<Vec<ImportedRule>, 
 fn draft_of(
     alloc: Global,
     text: &[u8],
-    options: Options,
+    options: ImportOptions,
     reports: &mut Reports,
-) -> Result<Draft, Stop> {
+) -> Result<ImportDraft, ReadFault> {
     if text.starts_with(b"lx-tables ") {
-        return stopped(0, Cause::Tables);
+        return stop(0, ImportCause::Tables);
     }
     if text.len() > MAX_SPECIFICATION_BYTES {
-        return stopped(0, Cause::TooLong);
+        return stop(0, ImportCause::TooLong);
     }
-    let mut cursor = Cursor {
+    let mut cursor = TextCursor {
         text,
         at: 0,
         line: 1,
     };
     let declared = read_definitions(alloc, &mut cursor, reports)?;
-    let Naming { names, definitions } = naming_of(alloc, &declared)?;
+    let PatternNames { names, definitions } = naming_of(alloc, &declared)?;
     let raw = read_rules(alloc, &mut cursor, &declared, &names, reports)?;
-    let rules = judged(alloc, raw, reports)?;
-    Ok(Draft {
+    let rules = judge_rules(alloc, raw, reports)?;
+    Ok(ImportDraft {
         specification: specification(alloc, &declared, definitions.as_slice(), rules.as_slice())?,
         cases: cases(alloc, options, rules.as_slice())?,
         conditions: conditions_of(alloc, &declared)?,
@@ -111,7 +111,7 @@ fn draft_of(
 }
 
 /// Returns the line in the file of the rule that lx rejects. `line` is its line in the printed text, whose last lines are the rules.
-fn own_line(draft: &Draft, line: u32) -> u32 {
+fn own_line(draft: &ImportDraft, line: u32) -> u32 {
     let mut lines: usize = 0;
     for byte in draft.specification.as_slice() {
         if *byte == b'\n' {
@@ -130,25 +130,28 @@ fn own_line(draft: &Draft, line: u32) -> u32 {
 }
 
 /// Returns the remark on why lx doesn't read the printed text as it should. Returns `None` if an allocation failed.
-fn check_report(draft: &Draft, fault: CheckFault) -> Option<(u32, Cause)> {
+fn check_report(draft: &ImportDraft, fault: CheckFault) -> Option<(u32, ImportCause)> {
     match fault {
-        CheckFault::NotTheSame => Some((0, Cause::NotTheSame)),
+        CheckFault::NotTheSame => Some((0, ImportCause::NotTheSame)),
         CheckFault::Refused(refused) => {
             if refused.code == lx_spec::Code::Memory {
                 None
             } else {
-                Some((own_line(draft, refused.line), Cause::Refused(refused.code)))
+                Some((
+                    own_line(draft, refused.line),
+                    ImportCause::Refused(refused.code),
+                ))
             }
         }
     }
 }
 
-fn refused(reports: Reports) -> Fault {
-    Fault::Refused(reports.list)
+fn fault_of(reports: Reports) -> ImportFault {
+    ImportFault::Refused(reports.list)
 }
 
 /// Returns the draft as an imported file, if lx reads it as it was read from the file.
-fn checked(alloc: Global, draft: Draft, reports: Reports) -> Result<Imported, Fault>
+fn check_draft(alloc: Global, draft: ImportDraft, reports: Reports) -> Result<Imported, ImportFault>
     ensures { IfOk result (λ i.
         IsImported (map condition_view i.conditions.items)
         (map definition_of i.definitions.items) (map rule_of i.rules.items)
@@ -163,13 +166,13 @@ fn checked(alloc: Global, draft: Draft, reports: Reports) -> Result<Imported, Fa
     );
     if let Err(fault) = outcome {
         let Some((line, cause)) = check_report(&draft, fault) else {
-            return Err(Fault::Memory);
+            return Err(ImportFault::Memory);
         };
         let mut reports = reports;
         reports.add(line, cause, true)?;
-        return Err(refused(reports));
+        return Err(fault_of(reports));
     }
-    let Draft {
+    let ImportDraft {
         specification,
         cases,
         conditions,
@@ -193,7 +196,7 @@ fn checked(alloc: Global, draft: Draft, reports: Reports) -> Result<Imported, Fa
 ///
 /// Err: reports, at least one of them fatal, if something can't be imported. With `lossy` it is left out, if there is a replacement, and only
 /// reported.
-pub fn import(alloc: Global, text: &[u8], options: Options) -> Result<Imported, Fault>
+pub fn import(alloc: Global, text: &[u8], options: ImportOptions) -> Result<Imported, ImportFault>
     ensures { IfOk result (λ i.
         IsImported (map condition_view i.conditions.items)
         (map definition_of i.definitions.items) (map rule_of i.rules.items)
@@ -206,14 +209,14 @@ pub fn import(alloc: Global, text: &[u8], options: Options) -> Result<Imported, 
     };
     let draft = match draft_of(alloc, text, options, &mut reports) {
         Ok(draft) => draft,
-        Err(Stop::Memory) => return Err(Fault::Memory),
-        Err(Stop::At(report)) => {
+        Err(ReadFault::Memory) => return Err(ImportFault::Memory),
+        Err(ReadFault::At(report)) => {
             reports.add(report.line, report.cause, true)?;
-            return Err(refused(reports));
+            return Err(fault_of(reports));
         }
     };
     if reports.fatal {
-        return Err(refused(reports));
+        return Err(fault_of(reports));
     }
-    checked(alloc, draft, reports)
+    check_draft(alloc, draft, reports)
 }

@@ -1,9 +1,9 @@
 //! Turns rules of a flex file into rules of lx, with their `<<EOF>>` rules and actions, and reports losses.
 
-use crate::actions::Action;
-use crate::report::{Cause, Reports, Stop};
-use crate::rules::RawRule;
-use lx_flex_pattern::{Pattern, Reading, Tree, translate};
+use crate::actions::FlexAction;
+use crate::report::{ImportCause, ReadFault, Reports};
+use crate::rules::FlexRule;
+use lx_flex_pattern::{FlexPattern, Reading, Tree, translate};
 use std::alloc::{AllocError, Global};
 
 /// The conditions in which a rule is active, and its pattern.
@@ -14,7 +14,7 @@ pub struct ImportedRule {
     /// Numbers of its conditions, in ascending order. `None` if it names none.
     pub conditions: Option<Vec<u16>>,
     /// Pattern of the rule.
-    pub pattern: Pattern,
+    pub pattern: FlexPattern,
 }
 
 /// A rule with its text in lx.
@@ -23,22 +23,22 @@ pub(crate) struct JudgedRule {
     pub(crate) rule: ImportedRule,
     /// Pattern of the rule in lx.
     pub(crate) text: Vec<u8>,
-    pub(crate) action: Action,
+    pub(crate) action: FlexAction,
 }
 
 /// Removes the rules for `<<EOF>>`. Returns the others from the last to the first. A rule whose action is that of a removed one gets that action.
-pub(crate) fn without_ends(
+pub(crate) fn without_eof_rules(
     alloc: Global,
-    rules: Vec<RawRule>,
-) -> Result<Vec<(ImportedRule, bool, Action)>, AllocError> {
+    rules: Vec<FlexRule>,
+) -> Result<Vec<(ImportedRule, bool, FlexAction)>, AllocError> {
     let mut left = rules;
     let mut kept = Vec::new(alloc);
-    let mut carried: Option<Action> = None;
+    let mut carried: Option<FlexAction> = None;
     for _ in 0..left.len() {
         let Some(raw) = left.pop() else {
             break;
         };
-        let RawRule {
+        let FlexRule {
             line,
             conditions,
             reading,
@@ -46,13 +46,13 @@ pub(crate) fn without_ends(
         } = raw;
         match reading {
             None => {
-                if !matches!(action, Action::Bar) {
+                if !matches!(action, FlexAction::Bar) {
                     carried = Some(action);
                 }
             }
             Some(reading) => {
                 let action = match action {
-                    Action::Bar => carried.take().unwrap_or(Action::Bar),
+                    FlexAction::Bar => carried.take().unwrap_or(FlexAction::Bar),
                     other => other,
                 };
                 carried = None;
@@ -75,7 +75,7 @@ pub(crate) fn without_ends(
 }
 
 /// Returns true if the tree matches the empty word. A name isn't known, and counts as false.
-fn matches_nothing(tree: &Tree) -> bool {
+fn matches_empty(tree: &Tree) -> bool {
     match tree {
         Tree::Empty => true,
         Tree::OneOf {
@@ -83,9 +83,9 @@ fn matches_nothing(tree: &Tree) -> bool {
             fold: _,
             members: _,
         } => false,
-        Tree::Then(first, second) => matches_nothing(first) && matches_nothing(second),
-        Tree::Or(this, that) => matches_nothing(this) || matches_nothing(that),
-        Tree::Times { body, low, high: _ } => *low == 0 || matches_nothing(body),
+        Tree::Then(first, second) => matches_empty(first) && matches_empty(second),
+        Tree::Or(this, that) => matches_empty(this) || matches_empty(that),
+        Tree::Times { body, low, high: _ } => *low == 0 || matches_empty(body),
         Tree::Name(_) => false,
     }
 }
@@ -98,13 +98,13 @@ fn judge_pattern(
     behind_bar: bool,
 ) -> Result<(), AllocError> {
     if trailing {
-        reports.add_loss(rule.line, Cause::TrailingContext)?;
+        reports.add_loss(rule.line, ImportCause::TrailingContext)?;
     }
     if rule.pattern.line_end && behind_bar {
-        reports.add_loss(rule.line, Cause::DollarBehindBar)?;
+        reports.add_loss(rule.line, ImportCause::DollarBehindBar)?;
     }
-    if rule.pattern.line_end && matches_nothing(&rule.pattern.tree) {
-        reports.add_loss(rule.line, Cause::EmptyBeforeDollar)?;
+    if rule.pattern.line_end && matches_empty(&rule.pattern.tree) {
+        reports.add_loss(rule.line, ImportCause::EmptyBeforeDollar)?;
     }
     Ok(())
 }
@@ -113,17 +113,17 @@ fn judge_pattern(
 fn judge_action(
     reports: &mut Reports,
     rule_line: u32,
-    action: &Action,
+    action: &FlexAction,
     last: bool,
 ) -> Result<(), AllocError> {
     match action {
-        Action::Bar => {
+        FlexAction::Bar => {
             if last {
-                reports.add(rule_line, Cause::DanglingBar, true)?;
+                reports.add(rule_line, ImportCause::DanglingBar, true)?;
             }
         }
-        Action::Steps(_) => {}
-        Action::Code {
+        FlexAction::Steps(_) => {}
+        FlexAction::Code {
             text: _,
             line: _,
             begins: _,
@@ -138,24 +138,24 @@ fn text_of(
     alloc: Global,
     reports: &mut Reports,
     rule: &ImportedRule,
-) -> Result<Option<Vec<u8>>, Stop> {
+) -> Result<Option<Vec<u8>>, ReadFault> {
     match translate(alloc, &rule.pattern) {
         Ok(text) => Ok(Some(text)),
-        Err(lx_flex_pattern::Cause::Memory) => Err(Stop::Memory),
+        Err(lx_flex_pattern::PatternFault::Memory) => Err(ReadFault::Memory),
         Err(cause) => {
-            reports.add(rule.line, Cause::Pattern(cause), true)?;
+            reports.add(rule.line, ImportCause::Pattern(cause), true)?;
             Ok(None)
         }
     }
 }
 
 /// Returns the rules as lx has them, and reports all remarks on them.
-pub(crate) fn judged(
+pub(crate) fn judge_rules(
     alloc: Global,
-    rules: Vec<RawRule>,
+    rules: Vec<FlexRule>,
     reports: &mut Reports,
-) -> Result<Vec<JudgedRule>, Stop> {
-    let kept = without_ends(alloc, rules)?;
+) -> Result<Vec<JudgedRule>, ReadFault> {
+    let kept = without_eof_rules(alloc, rules)?;
     let count = kept.len();
     let mut judged = Vec::new(alloc);
     let mut behind_bar = false;
@@ -163,7 +163,7 @@ pub(crate) fn judged(
     for (rule, trailing, action) in kept {
         number = number.saturating_add(1);
         judge_pattern(reports, &rule, trailing, behind_bar)?;
-        behind_bar = matches!(action, Action::Bar);
+        behind_bar = matches!(action, FlexAction::Bar);
         judge_action(reports, rule.line, &action, number == count)?;
         if let Some(text) = text_of(alloc, reports, &rule)? {
             judged.push(JudgedRule { rule, text, action })?;

@@ -16,7 +16,7 @@ pub mod report;
 mod rules;
 mod tokens;
 
-pub use crate::importing::{Imported, Options, import};
+pub use crate::importing::{ImportOptions, Imported, import};
 pub use crate::judging::ImportedRule;
 pub use crate::naming::ImportedDefinition;
-pub use crate::report::{Cause, Fault, Report};
+pub use crate::report::{ImportCause, ImportFault, ImportReport};

@@ -2,8 +2,8 @@
 
 use crate::conditions::without_hyphens;
 use crate::cursor::front;
-use crate::definitions::{Declared, RawDefinition};
-use crate::report::Stop;
+use crate::definitions::{Declared, FlexDefinition};
+use crate::report::ReadFault;
 use lx_flex_pattern::{Names, Tree, read_pattern, translate_substitute};
 use std::alloc::{AllocError, Global};
 
@@ -52,7 +52,7 @@ fn new_name(alloc: Global, names: &[Vec<u8>], name: &[u8]) -> Result<Vec<u8>, Al
 }
 
 /// Returns the definitions' names in lx, in order.
-fn lx_names(alloc: Global, definitions: &[RawDefinition]) -> Result<Vec<Vec<u8>>, AllocError> {
+fn lx_names(alloc: Global, definitions: &[FlexDefinition]) -> Result<Vec<Vec<u8>>, AllocError> {
     let mut names = Vec::new(alloc);
     for definition in definitions {
         let name = new_name(alloc, names.as_slice(), definition.name.as_slice())?;
@@ -74,7 +74,7 @@ fn lx_name_at<'a>(lx: &'a [Vec<u8>], inlined: &[usize], place: usize) -> Option<
 fn add_definition(
     alloc: Global,
     names: &mut Names,
-    definition: &RawDefinition,
+    definition: &FlexDefinition,
     lx: Option<&Vec<u8>>,
 ) -> Result<(), AllocError> {
     let lx_name = match lx {
@@ -92,7 +92,7 @@ fn add_definition(
 /// Returns the definitions. Those with the numbers in `inlined` are expanded.
 fn names_of(
     alloc: Global,
-    definitions: &[RawDefinition],
+    definitions: &[FlexDefinition],
     lx: &[Vec<u8>],
     inlined: &[usize],
 ) -> Result<Names, AllocError> {
@@ -111,19 +111,19 @@ fn names_of(
 }
 
 /// Returns the definition as lx has it, or `None` if it can't be a substitute.
-fn imported(
+fn import_definition(
     alloc: Global,
     declared: &Declared,
     names: &Names,
-    definition: &RawDefinition,
-) -> Result<Option<(Tree, Vec<u8>)>, Stop> {
+    definition: &FlexDefinition,
+) -> Result<Option<(Tree, Vec<u8>)>, ReadFault> {
     let text = definition.text.as_slice();
     if is_anchored(text) || declared.options.bare_names {
         return Ok(None);
     }
     let reading = match read_pattern(alloc, text, names, declared.options) {
         Ok(reading) => reading,
-        Err(lx_flex_pattern::Cause::Memory) => return Err(Stop::Memory),
+        Err(lx_flex_pattern::PatternFault::Memory) => return Err(ReadFault::Memory),
         Err(_) => return Ok(None),
     };
     let whole = reading.length == text.len() && !reading.trailing;
@@ -132,14 +132,14 @@ fn imported(
     }
     match translate_substitute(alloc, &reading.pattern.tree) {
         Ok(printed) => Ok(Some((reading.pattern.tree, printed))),
-        Err(lx_flex_pattern::Cause::Memory) => Err(Stop::Memory),
+        Err(lx_flex_pattern::PatternFault::Memory) => Err(ReadFault::Memory),
         Err(_) => Ok(None),
     }
 }
 
 /// The definitions of lx, and the names that patterns may use.
 #[derive(Drop)]
-pub(crate) struct Naming {
+pub(crate) struct PatternNames {
     pub(crate) names: Names,
     pub(crate) definitions: Vec<ImportedDefinition>,
 }
@@ -151,13 +151,13 @@ fn pass(
     lx: &[Vec<u8>],
     names: &Names,
     inlined: &mut Vec<usize>,
-) -> Result<(Vec<ImportedDefinition>, bool), Stop> {
+) -> Result<(Vec<ImportedDefinition>, bool), ReadFault> {
     let mut definitions = Vec::new(alloc);
     let mut more = false;
     let mut place: usize = 0;
     for definition in declared.definitions.as_slice() {
         if !inlined.as_slice().contains(&place) {
-            match imported(alloc, declared, names, definition)? {
+            match import_definition(alloc, declared, names, definition)? {
                 Some((tree, text)) => {
                     let name = match lx.get(place) {
                         Some(name) => name.clone()?,
@@ -177,7 +177,7 @@ fn pass(
 }
 
 /// Finds the definitions that lx can have by a name: those that are substitutes once the others are expanded.
-pub(crate) fn naming_of(alloc: Global, declared: &Declared) -> Result<Naming, Stop> {
+pub(crate) fn naming_of(alloc: Global, declared: &Declared) -> Result<PatternNames, ReadFault> {
     let raw = declared.definitions.as_slice();
     let lx = lx_names(alloc, raw)?;
     let mut inlined = Vec::new(alloc);
@@ -185,14 +185,14 @@ pub(crate) fn naming_of(alloc: Global, declared: &Declared) -> Result<Naming, St
         let names = names_of(alloc, raw, lx.as_slice(), inlined.as_slice())?;
         let (definitions, more) = pass(alloc, declared, lx.as_slice(), &names, &mut inlined)?;
         if !more {
-            return Ok(Naming { names, definitions });
+            return Ok(PatternNames { names, definitions });
         }
     }
     let mut all = Vec::new(alloc);
     for place in 0..raw.len() {
         all.push(place)?;
     }
-    Ok(Naming {
+    Ok(PatternNames {
         names: names_of(alloc, raw, lx.as_slice(), all.as_slice())?,
         definitions: Vec::new(alloc),
     })

@@ -1,8 +1,8 @@
 //! `%option` lines (flex's manual, "Scanner Options").
 
-use crate::cursor::{Cursor, blank_run, front, is_blank, place_of, skip};
-use crate::report::{Cause, Reports};
-use lx_flex_pattern::Options;
+use crate::cursor::{TextCursor, blank_run, front, is_blank, place_of, skip};
+use crate::report::{ImportCause, Reports};
+use lx_flex_pattern::PatternOptions;
 use std::alloc::{AllocError, Global};
 
 /// Option words that change no token, with a blank on each side.
@@ -45,7 +45,7 @@ fn is_harmless(alloc: Global, word: &[u8]) -> Result<bool, AllocError> {
 
 /// The change of an option word to the reading of patterns.
 #[derive(Clone, Copy)]
-enum Change {
+enum OptionChange {
     /// Case is ignored.
     Folds,
     /// Case matters.
@@ -56,31 +56,31 @@ enum Change {
     Lex,
 }
 
-const CHANGES: &[(&[u8], Change)] = &[
-    (b"case-insensitive", Change::Folds),
-    (b"caseless", Change::Folds),
-    (b"case-sensitive", Change::Differs),
-    (b"caseful", Change::Differs),
-    (b"posix-compat", Change::Posix),
-    (b"posix", Change::Posix),
-    (b"lex-compat", Change::Lex),
+const CHANGES: &[(&[u8], OptionChange)] = &[
+    (b"case-insensitive", OptionChange::Folds),
+    (b"caseless", OptionChange::Folds),
+    (b"case-sensitive", OptionChange::Differs),
+    (b"caseful", OptionChange::Differs),
+    (b"posix-compat", OptionChange::Posix),
+    (b"posix", OptionChange::Posix),
+    (b"lex-compat", OptionChange::Lex),
 ];
 
-fn with_change(options: Options, change: Change, on: bool) -> Options {
+fn with_change(options: PatternOptions, change: OptionChange, on: bool) -> PatternOptions {
     match change {
-        Change::Folds => Options {
+        OptionChange::Folds => PatternOptions {
             fold: on,
             ..options
         },
-        Change::Differs => Options {
+        OptionChange::Differs => PatternOptions {
             fold: !on,
             ..options
         },
-        Change::Posix => Options {
+        OptionChange::Posix => PatternOptions {
             posix: on,
             ..options
         },
-        Change::Lex => Options {
+        OptionChange::Lex => PatternOptions {
             posix: on,
             bare_names: on,
             ..options
@@ -89,7 +89,7 @@ fn with_change(options: Options, change: Change, on: bool) -> Options {
 }
 
 /// Returns the options with the change of a word, or `None` if it changes nothing here.
-fn changed(options: Options, word: &[u8], on: bool) -> Option<Options> {
+fn with_option(options: PatternOptions, word: &[u8], on: bool) -> Option<PatternOptions> {
     for (name, change) in CHANGES {
         if word == *name {
             return Some(with_change(options, *change, on));
@@ -117,7 +117,7 @@ fn mark_length(text: &[u8]) -> usize {
 }
 
 /// Returns the word in lower case, as flex takes it.
-fn in_small_letters(alloc: Global, word: &[u8]) -> Result<Vec<u8>, AllocError> {
+fn to_small_letters(alloc: Global, word: &[u8]) -> Result<Vec<u8>, AllocError> {
     let mut small = Vec::new(alloc);
     for byte in word {
         small.push(byte.to_ascii_lowercase())?;
@@ -129,7 +129,7 @@ fn in_small_letters(alloc: Global, word: &[u8]) -> Result<Vec<u8>, AllocError> {
 fn read_word<'a>(
     alloc: Global,
     text: &'a [u8],
-    options: &mut Options,
+    options: &mut PatternOptions,
     unknown: &mut bool,
     left_out: &mut bool,
 ) -> Result<&'a [u8], AllocError> {
@@ -138,9 +138,9 @@ fn read_word<'a>(
         return Ok(skip(mark, text));
     }
     let length = word_length(text);
-    let small = in_small_letters(alloc, front(length, text))?;
+    let small = to_small_letters(alloc, front(length, text))?;
     let (word, on) = sense_of(small.as_slice());
-    match changed(*options, word, on) {
+    match with_option(*options, word, on) {
         Some(next) => *options = next,
         None => {
             if is_harmless(alloc, word)? {
@@ -156,8 +156,8 @@ fn read_word<'a>(
 /// Reads the words of a line after `%option`.
 pub(crate) fn read_options(
     alloc: Global,
-    cursor: &mut Cursor,
-    options: &mut Options,
+    cursor: &mut TextCursor,
+    options: &mut PatternOptions,
     reports: &mut Reports,
 ) -> Result<(), AllocError> {
     let line = cursor.line_rest();
@@ -172,10 +172,10 @@ pub(crate) fn read_options(
         rest = read_word(alloc, rest, options, &mut unknown, &mut left_out)?;
     }
     if unknown {
-        reports.add(cursor.line, Cause::UnknownOption, true)?;
+        reports.add(cursor.line, ImportCause::UnknownOption, true)?;
     }
-    if left_out && !reports.has(Cause::OptionsLeftOut) {
-        reports.add(cursor.line, Cause::OptionsLeftOut, false)?;
+    if left_out && !reports.has(ImportCause::OptionsLeftOut) {
+        reports.add(cursor.line, ImportCause::OptionsLeftOut, false)?;
     }
     cursor.skip_line();
     Ok(())

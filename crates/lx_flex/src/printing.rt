@@ -1,9 +1,9 @@
 //! Prints the specification for lx, and the C text of actions.
 
-use crate::actions::{Action, Step};
-use crate::conditions::StartCondition;
+use crate::actions::{ActionStep, FlexAction};
+use crate::conditions::FlexCondition;
 use crate::definitions::Declared;
-use crate::importing::Options;
+use crate::importing::ImportOptions;
 use crate::judging::JudgedRule;
 use crate::naming::ImportedDefinition;
 use itoa::Buffer;
@@ -21,7 +21,7 @@ fn push_all(text: &mut Vec<u8>, parts: &[&[u8]]) -> Result<(), AllocError> {
 }
 
 /// Appends a line with `%s` or `%x` and a name for each condition except `INITIAL`.
-fn push_conditions(text: &mut Vec<u8>, conditions: &[StartCondition]) -> Result<(), AllocError> {
+fn push_conditions(text: &mut Vec<u8>, conditions: &[FlexCondition]) -> Result<(), AllocError> {
     let mut first = true;
     for condition in conditions {
         if !first {
@@ -58,7 +58,7 @@ fn push_definitions(
 }
 
 /// Returns the name of a condition in lx.
-fn condition_name(conditions: &[StartCondition], number: u16) -> &[u8] {
+fn condition_name(conditions: &[FlexCondition], number: u16) -> &[u8] {
     match conditions.get(usize::from(number)) {
         Some(condition) => condition.lx_name.as_slice(),
         None => b"",
@@ -68,7 +68,7 @@ fn condition_name(conditions: &[StartCondition], number: u16) -> &[u8] {
 /// Appends the conditions before a pattern.
 fn push_list(
     text: &mut Vec<u8>,
-    conditions: &[StartCondition],
+    conditions: &[FlexCondition],
     numbers: &[u16],
 ) -> Result<(), AllocError> {
     let mut mark: &[u8] = b"<";
@@ -81,25 +81,25 @@ fn push_list(
 
 fn push_step(
     text: &mut Vec<u8>,
-    conditions: &[StartCondition],
-    step: &Step,
+    conditions: &[FlexCondition],
+    step: &ActionStep,
 ) -> Result<(), AllocError> {
     match step {
-        Step::Echo => push(text, b"ECHO;"),
-        Step::Begin(number) => {
+        ActionStep::Echo => push(text, b"ECHO;"),
+        ActionStep::Begin(number) => {
             push_all(
                 text,
                 &[b"BEGIN ", condition_name(conditions, *number), b";"],
             )
         }
-        Step::Return(kind) => push_all(text, &[b"return ", kind.as_slice(), b";"]),
+        ActionStep::Return(kind) => push_all(text, &[b"return ", kind.as_slice(), b";"]),
     }
 }
 
 fn push_steps(
     text: &mut Vec<u8>,
-    conditions: &[StartCondition],
-    steps: &[Step],
+    conditions: &[FlexCondition],
+    steps: &[ActionStep],
 ) -> Result<(), AllocError> {
     let mut first = true;
     for step in steps {
@@ -115,8 +115,8 @@ fn push_steps(
 /// Appends steps as an action: `;` for none, and braces around several.
 fn push_action_steps(
     text: &mut Vec<u8>,
-    conditions: &[StartCondition],
-    steps: &[Step],
+    conditions: &[FlexCondition],
+    steps: &[ActionStep],
 ) -> Result<(), AllocError> {
     if steps.is_empty() {
         return push(text, b";");
@@ -132,8 +132,8 @@ fn push_action_steps(
 /// Appends the action for C text: the conditions that it begins unconditionally, and the rule's number as a kind.
 fn push_code(
     text: &mut Vec<u8>,
-    conditions: &[StartCondition],
-    begins: &[Step],
+    conditions: &[FlexCondition],
+    begins: &[ActionStep],
     number: u32,
 ) -> Result<(), AllocError> {
     let mut digits = Buffer::new();
@@ -148,14 +148,14 @@ fn push_code(
 
 fn push_action(
     text: &mut Vec<u8>,
-    conditions: &[StartCondition],
-    action: &Action,
+    conditions: &[FlexCondition],
+    action: &FlexAction,
     number: u32,
 ) -> Result<(), AllocError> {
     match action {
-        Action::Bar => push(text, b"|"),
-        Action::Steps(steps) => push_action_steps(text, conditions, steps.as_slice()),
-        Action::Code {
+        FlexAction::Bar => push(text, b"|"),
+        FlexAction::Steps(steps) => push_action_steps(text, conditions, steps.as_slice()),
+        FlexAction::Code {
             text: _,
             line: _,
             begins,
@@ -166,7 +166,7 @@ fn push_action(
 
 fn push_rule(
     text: &mut Vec<u8>,
-    conditions: &[StartCondition],
+    conditions: &[FlexCondition],
     judged: &JudgedRule,
     number: u32,
 ) -> Result<(), AllocError> {
@@ -242,7 +242,7 @@ fn push_place(text: &mut Vec<u8>, file: &[u8], line: u32) -> Result<(), AllocErr
 /// Appends one case: the C text of a rule, with its line.
 fn push_case(
     text: &mut Vec<u8>,
-    options: Options,
+    options: ImportOptions,
     number: u32,
     line: u32,
     code: &[u8],
@@ -255,14 +255,14 @@ fn push_case(
 /// Prints the cases of a switch over kinds: the C text of each rule that returns its number.
 pub(crate) fn cases(
     alloc: Global,
-    options: Options,
+    options: ImportOptions,
     rules: &[JudgedRule],
 ) -> Result<Vec<u8>, AllocError> {
     let mut text = Vec::new(alloc);
     let mut number: u32 = 0;
     for judged in rules {
         number = number.saturating_add(1);
-        if let Action::Code {
+        if let FlexAction::Code {
             text: code,
             line,
             begins: _,

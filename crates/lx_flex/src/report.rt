@@ -6,7 +6,7 @@ use thiserror::Error;
 
 /// The cause of a report.
 #[derive(Debug, Clone, Copy, PartialEq, Eq, Error)]
-pub enum Cause {
+pub enum ImportCause {
     #[error("the file has more than 1,048,576 bytes; split it")]
     TooLong,
     #[error("there is no line %%; write one before the rules")]
@@ -28,7 +28,7 @@ pub enum Cause {
     #[error("the start condition isn't declared; declare it with %s or %x")]
     UnknownCondition,
     #[error("the pattern: {0}; write another one")]
-    Pattern(lx_flex_pattern::Cause),
+    Pattern(lx_flex_pattern::PatternFault),
     #[error("the last rule has the action of the next; write its action")]
     DanglingBar,
     #[error("an <<EOF>> rule is left out; do its work at the end of the tokens")]
@@ -75,50 +75,50 @@ pub enum Cause {
 
 /// A report on a line, counted from 1.
 #[derive(Debug, Clone, Copy, PartialEq, Eq)]
-pub struct Report {
+pub struct ImportReport {
     pub line: u32,
-    pub cause: Cause,
+    pub cause: ImportCause,
     /// True if it prevents the import of the file.
     pub fatal: bool,
 }
 
 /// Reason why reading stops.
 #[derive(Clone, Copy)]
-pub(crate) enum Stop {
-    At(Report),
+pub(crate) enum ReadFault {
+    At(ImportReport),
     Memory,
 }
 
-impl From<AllocError> for Stop {
-    fn from(_e: AllocError) -> Stop {
-        Stop::Memory
+impl From<AllocError> for ReadFault {
+    fn from(_e: AllocError) -> ReadFault {
+        ReadFault::Memory
     }
 }
 
-impl<T: Drop> From<AllocFailed<T>> for Stop {
-    fn from(_e: AllocFailed<T>) -> Stop {
-        Stop::Memory
+impl<T: Drop> From<AllocFailed<T>> for ReadFault {
+    fn from(_e: AllocFailed<T>) -> ReadFault {
+        ReadFault::Memory
     }
 }
 
 /// Reason why a file isn't imported.
 #[derive(Debug, Drop)]
-pub enum Fault {
+pub enum ImportFault {
     /// The reports, in the order of the text. At least one of them is fatal.
-    Refused(Vec<Report>),
+    Refused(Vec<ImportReport>),
     /// An allocation failed.
     Memory,
 }
 
-impl From<AllocError> for Fault {
-    fn from(_e: AllocError) -> Fault {
-        Fault::Memory
+impl From<AllocError> for ImportFault {
+    fn from(_e: AllocError) -> ImportFault {
+        ImportFault::Memory
     }
 }
 
-impl<T: Drop> From<AllocFailed<T>> for Fault {
-    fn from(_e: AllocFailed<T>) -> Fault {
-        Fault::Memory
+impl<T: Drop> From<AllocFailed<T>> for ImportFault {
+    fn from(_e: AllocFailed<T>) -> ImportFault {
+        ImportFault::Memory
     }
 }
 
@@ -128,14 +128,14 @@ const MAX_REPORTS: usize = 1000;
 /// The reports that were made.
 #[derive(Drop)]
 pub(crate) struct Reports {
-    pub(crate) list: Vec<Report>,
+    pub(crate) list: Vec<ImportReport>,
     pub(crate) fatal: bool,
     /// True if a loss is only reported.
     pub(crate) lossy: bool,
 }
 
 impl Reports {
-    pub(crate) fn has(&self, cause: Cause) -> bool {
+    pub(crate) fn has(&self, cause: ImportCause) -> bool {
         for report in self.list.as_slice() {
             if report.cause == cause {
                 return true;
@@ -156,15 +156,20 @@ impl Reports {
     }
 
     /// Adds a report, after those on its line and on earlier ones. Above the limit, the last report says that there are more.
-    pub(crate) fn add(&mut self, line: u32, cause: Cause, fatal: bool) -> Result<(), AllocError> {
+    pub(crate) fn add(
+        &mut self,
+        line: u32,
+        cause: ImportCause,
+        fatal: bool,
+    ) -> Result<(), AllocError> {
         self.fatal = self.fatal || fatal;
         if self.list.len() < MAX_REPORTS {
             let at = self.place_of(line).min(self.list.len());
-            self.list.insert(at, Report { line, cause, fatal })?;
+            self.list.insert(at, ImportReport { line, cause, fatal })?;
         } else if self.list.len() == MAX_REPORTS {
-            self.list.push(Report {
+            self.list.push(ImportReport {
                 line: 0,
-                cause: Cause::Further,
+                cause: ImportCause::Further,
                 fatal,
             })?;
         }
@@ -172,7 +177,7 @@ impl Reports {
     }
 
     /// Adds a report of a loss. It is fatal unless losses are only reported.
-    pub(crate) fn add_loss(&mut self, line: u32, cause: Cause) -> Result<(), AllocError> {
+    pub(crate) fn add_loss(&mut self, line: u32, cause: ImportCause) -> Result<(), AllocError> {
         let fatal = !self.lossy;
         self.add(line, cause, fatal)
     }
@@ -187,8 +192,8 @@ impl Reports {
 }
 
 /// Returns a report that stops reading.
-pub(crate) fn stopped<T>(line: u32, cause: Cause) -> Result<T, Stop> {
-    Err(Stop::At(Report {
+pub(crate) fn stop<T>(line: u32, cause: ImportCause) -> Result<T, ReadFault> {
+    Err(ReadFault::At(ImportReport {
         line,
         cause,
         fatal: true,

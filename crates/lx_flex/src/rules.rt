@@ -1,11 +1,11 @@
 //! The rules section (flex's manual, "Format of the Rules Section", "Start Conditions").
 
-use crate::actions::{Action, action_of, problems_before_rules};
-use crate::c_code::{behind_mark, lines_before, skip_block, take_action, take_block, tidy};
-use crate::conditions::{joined, name_at, place_of};
-use crate::cursor::{Cursor, between, blank_run, is_blank, skip};
+use crate::actions::{FlexAction, action_of, problems_before_rules};
+use crate::c_code::{lines_before, skip_block, strip_mark, take_action, take_block, tidy};
+use crate::conditions::{name_at, place_of, union};
+use crate::cursor::{TextCursor, between, blank_run, is_blank, skip};
 use crate::definitions::Declared;
-use crate::report::{Cause, Reports, Stop, stopped};
+use crate::report::{ImportCause, ReadFault, Reports, stop};
 use lx_flex_pattern::{Names, Reading, read_pattern};
 use lx_rules::limits::MAX_RULES;
 use std::alloc::{AllocError, Global};
@@ -15,13 +15,13 @@ const MAX_SCOPES: usize = 64;
 
 /// A rule, as it is written.
 #[derive(Drop)]
-pub(crate) struct RawRule {
+pub(crate) struct FlexRule {
     pub(crate) line: u32,
     /// Conditions that it names, with those of the scopes around it. `None` if there are none.
     pub(crate) conditions: Option<Vec<u16>>,
     /// Pattern of the rule. `None` for `<<EOF>>`.
     pub(crate) reading: Option<Reading>,
-    pub(crate) action: Action,
+    pub(crate) action: FlexAction,
 }
 
 /// An open scope: its conditions with those around it, and its line.
@@ -35,7 +35,7 @@ struct Scope {
 #[derive(Drop)]
 struct Rules {
     scopes: Vec<Scope>,
-    list: Vec<RawRule>,
+    list: Vec<FlexRule>,
     /// True before the first rule. Indented lines are code then.
     prologue: bool,
 }
@@ -61,7 +61,7 @@ fn all_conditions(alloc: Global, declared: &Declared) -> Result<Vec<u16>, AllocE
 }
 
 /// Skips blanks and newlines between the names of a list.
-fn skip_space(cursor: &mut Cursor) {
+fn skip_space(cursor: &mut TextCursor) {
     let mut count: usize = 0;
     for byte in cursor.rest() {
         if !byte.is_ascii_whitespace() {
@@ -74,11 +74,11 @@ fn skip_space(cursor: &mut Cursor) {
 
 /// Reads a name of a list, and adds its number.
 fn read_condition(
-    cursor: &mut Cursor,
+    cursor: &mut TextCursor,
     declared: &Declared,
     reports: &mut Reports,
     numbers: &mut Vec<u16>,
-) -> Result<bool, Stop> {
+) -> Result<bool, ReadFault> {
     let name = name_at(cursor.rest());
     if name.is_empty() {
         return Ok(false);
@@ -88,7 +88,7 @@ fn read_condition(
     cursor.advance(name.len());
     match found {
         Some(number) => numbers.push(number)?,
-        None => reports.add(line, Cause::UnknownCondition, true)?,
+        None => reports.add(line, ImportCause::UnknownCondition, true)?,
     }
     Ok(true)
 }
@@ -96,10 +96,10 @@ fn read_condition(
 /// Reads the conditions of a list, starting after its `<`. Returns `None` if it isn't a list.
 fn read_list(
     alloc: Global,
-    cursor: &mut Cursor,
+    cursor: &mut TextCursor,
     declared: &Declared,
     reports: &mut Reports,
-) -> Result<Option<Vec<u16>>, Stop> {
+) -> Result<Option<Vec<u16>>, ReadFault> {
     if cursor.begins_with(b"*>") {
         cursor.advance(2);
         return Ok(Some(all_conditions(alloc, declared)?));
@@ -124,12 +124,16 @@ fn read_list(
 }
 
 /// Reads the action after a pattern.
-fn read_action(alloc: Global, cursor: &mut Cursor, declared: &Declared) -> Result<Action, Stop> {
+fn read_action(
+    alloc: Global,
+    cursor: &mut TextCursor,
+    declared: &Declared,
+) -> Result<FlexAction, ReadFault> {
     cursor.skip_blanks();
     let line = cursor.line;
     if cursor.is_at(b'|') {
         cursor.skip_line();
-        return Ok(Action::Bar);
+        return Ok(FlexAction::Bar);
     }
     let text = if cursor.begins_with(b"%{") {
         cursor.advance(2);
@@ -154,12 +158,12 @@ fn conditions_of(
     own: &[u16],
 ) -> Result<Option<Vec<u16>>, AllocError> {
     let outer = own_conditions(alloc, rules)?;
-    let all = joined(alloc, condition_count(declared), outer.as_slice(), own)?;
+    let all = union(alloc, condition_count(declared), outer.as_slice(), own)?;
     Ok(if all.is_empty() { None } else { Some(all) })
 }
 
 /// Returns true if an action or the line's end follows the pattern.
-fn is_behind_pattern(cursor: &Cursor) -> bool {
+fn is_behind_pattern(cursor: &TextCursor) -> bool {
     match cursor.peek_at(0) {
         None => true,
         Some(byte) => is_blank(byte) || byte == b'\n' || byte == b'\r',
@@ -169,11 +173,11 @@ fn is_behind_pattern(cursor: &Cursor) -> bool {
 /// Reads the pattern, or returns `None` with a report. Its action follows.
 fn read_rule_pattern(
     alloc: Global,
-    cursor: &mut Cursor,
+    cursor: &mut TextCursor,
     declared: &Declared,
     names: &Names,
     reports: &mut Reports,
-) -> Result<Option<Reading>, Stop> {
+) -> Result<Option<Reading>, ReadFault> {
     let line = cursor.line;
     match read_pattern(alloc, cursor.rest(), names, declared.options) {
         Ok(reading) => {
@@ -181,11 +185,11 @@ fn read_rule_pattern(
             if is_behind_pattern(cursor) {
                 return Ok(Some(reading));
             }
-            reports.add(line, Cause::BadRule, true)?;
+            reports.add(line, ImportCause::BadRule, true)?;
         }
-        Err(lx_flex_pattern::Cause::Memory) => return Err(Stop::Memory),
+        Err(lx_flex_pattern::PatternFault::Memory) => return Err(ReadFault::Memory),
         Err(cause) => {
-            reports.add(line, Cause::Pattern(cause), true)?;
+            reports.add(line, ImportCause::Pattern(cause), true)?;
             let length = lx_ere::pattern_end(cursor.line_rest());
             cursor.advance(length);
         }
@@ -196,16 +200,16 @@ fn read_rule_pattern(
 /// Reads a rule, starting at its pattern.
 fn read_rule(
     alloc: Global,
-    cursor: &mut Cursor,
+    cursor: &mut TextCursor,
     declared: &Declared,
     names: &Names,
     reports: &mut Reports,
     rules: &mut Rules,
     own: &[u16],
-) -> Result<(), Stop> {
+) -> Result<(), ReadFault> {
     let line = cursor.line;
     if rules.list.len() >= MAX_RULES {
-        return stopped(line, Cause::TooMany);
+        return stop(line, ImportCause::TooMany);
     }
     let end_of_file = cursor.begins_with(b"<<EOF>>");
     let reading = if end_of_file {
@@ -216,12 +220,12 @@ fn read_rule(
     };
     let action = read_action(alloc, cursor, declared)?;
     if end_of_file {
-        reports.add(line, Cause::EofRule, false)?;
+        reports.add(line, ImportCause::EofRule, false)?;
     } else if reading.is_none() {
         return Ok(());
     }
     let conditions = conditions_of(alloc, rules, declared, own)?;
-    rules.list.push(RawRule {
+    rules.list.push(FlexRule {
         line,
         conditions,
         reading,
@@ -231,12 +235,12 @@ fn read_rule(
 }
 
 /// Returns true if the next byte is a `{` that opens a scope: neither a name in braces nor a number follows.
-fn opens_scope(cursor: &Cursor) -> bool {
-    let Some(rest) = behind_mark(b"{", cursor.rest()) else {
+fn opens_scope(cursor: &TextCursor) -> bool {
+    let Some(rest) = strip_mark(b"{", cursor.rest()) else {
         return false;
     };
     let name = name_at(rest);
-    let named = !name.is_empty() && behind_mark(b"}", skip(name.len(), rest)).is_some();
+    let named = !name.is_empty() && strip_mark(b"}", skip(name.len(), rest)).is_some();
     let counted = match rest.first() {
         Some(byte) => byte.is_ascii_digit(),
         None => false,
@@ -247,16 +251,16 @@ fn opens_scope(cursor: &Cursor) -> bool {
 /// Opens a scope.
 fn open_scope(
     alloc: Global,
-    cursor: &mut Cursor,
+    cursor: &mut TextCursor,
     declared: &Declared,
     rules: &mut Rules,
     own: &[u16],
-) -> Result<(), Stop> {
+) -> Result<(), ReadFault> {
     if rules.scopes.len() >= MAX_SCOPES {
-        return stopped(cursor.line, Cause::TooMany);
+        return stop(cursor.line, ImportCause::TooMany);
     }
     let outer = own_conditions(alloc, rules)?;
-    let conditions = joined(alloc, condition_count(declared), outer.as_slice(), own)?;
+    let conditions = union(alloc, condition_count(declared), outer.as_slice(), own)?;
     rules.scopes.push(Scope {
         conditions,
         line: cursor.line,
@@ -269,7 +273,7 @@ fn open_scope(
 }
 
 /// Skips to the next line that isn't empty, if nothing follows a list of conditions on its line.
-fn skip_to_next(cursor: &mut Cursor, rules: &mut Rules) -> Result<(), Stop> {
+fn skip_to_next(cursor: &mut TextCursor, rules: &mut Rules) -> Result<(), ReadFault> {
     if !cursor.is_blank_line() {
         return Ok(());
     }
@@ -285,16 +289,16 @@ fn skip_to_next(cursor: &mut Cursor, rules: &mut Rules) -> Result<(), Stop> {
 /// Reads a list of conditions, and the rule or the scope after it.
 fn read_listed(
     alloc: Global,
-    cursor: &mut Cursor,
+    cursor: &mut TextCursor,
     declared: &Declared,
     names: &Names,
     reports: &mut Reports,
     rules: &mut Rules,
-) -> Result<(), Stop> {
+) -> Result<(), ReadFault> {
     let line = cursor.line;
     cursor.advance(1);
     let Some(own) = read_list(alloc, cursor, declared, reports)? else {
-        reports.add(line, Cause::BadRule, true)?;
+        reports.add(line, ImportCause::BadRule, true)?;
         cursor.skip_line();
         return Ok(());
     };
@@ -314,9 +318,13 @@ fn read_listed(
 }
 
 /// Closes a scope.
-fn close_scope(cursor: &mut Cursor, reports: &mut Reports, rules: &mut Rules) -> Result<(), Stop> {
+fn close_scope(
+    cursor: &mut TextCursor,
+    reports: &mut Reports,
+    rules: &mut Rules,
+) -> Result<(), ReadFault> {
     if rules.scopes.pop().is_none() {
-        reports.add(cursor.line, Cause::BadRule, true)?;
+        reports.add(cursor.line, ImportCause::BadRule, true)?;
     }
     cursor.advance(1);
     let _code = take_action(cursor)?;
@@ -324,7 +332,7 @@ fn close_scope(cursor: &mut Cursor, reports: &mut Reports, rules: &mut Rules) ->
 }
 
 /// Skips an empty line, code or comments between rules. Returns true if there was any.
-fn skip_code(cursor: &mut Cursor, rules: &mut Rules) -> Result<bool, Stop> {
+fn skip_code(cursor: &mut TextCursor, rules: &mut Rules) -> Result<bool, ReadFault> {
     if cursor.is_blank_line() {
         cursor.skip_line();
         return Ok(true);
@@ -342,13 +350,13 @@ fn skip_code(cursor: &mut Cursor, rules: &mut Rules) -> Result<bool, Stop> {
     }
     let rest = cursor.rest();
     let inner = skip(blank_run(rest), rest);
-    if behind_mark(b"%{", inner).is_some() {
+    if strip_mark(b"%{", inner).is_some() {
         cursor.skip_blanks();
         cursor.advance(2);
         let _code = take_block(cursor)?;
         return Ok(true);
     }
-    if behind_mark(b"/*", inner).is_some() && blank_run(rest) != 0 {
+    if strip_mark(b"/*", inner).is_some() && blank_run(rest) != 0 {
         let _code = take_action(cursor)?;
         return Ok(true);
     }
@@ -358,12 +366,12 @@ fn skip_code(cursor: &mut Cursor, rules: &mut Rules) -> Result<bool, Stop> {
 /// Reads one rule, or another construct that begins on a line.
 fn read_line(
     alloc: Global,
-    cursor: &mut Cursor,
+    cursor: &mut TextCursor,
     declared: &Declared,
     names: &Names,
     reports: &mut Reports,
     rules: &mut Rules,
-) -> Result<(), Stop> {
+) -> Result<(), ReadFault> {
     if skip_code(cursor, rules)? {
         return Ok(());
     }
@@ -380,11 +388,11 @@ fn read_line(
 /// Reads the rules section, up to its `%%` line or the file's end.
 pub(crate) fn read_rules(
     alloc: Global,
-    cursor: &mut Cursor,
+    cursor: &mut TextCursor,
     declared: &Declared,
     names: &Names,
     reports: &mut Reports,
-) -> Result<Vec<RawRule>, Stop> {
+) -> Result<Vec<FlexRule>, ReadFault> {
     let mut rules = Rules {
         scopes: Vec::new(alloc),
         list: Vec::new(alloc),
@@ -410,7 +418,7 @@ pub(crate) fn read_rules(
         prologue: _,
     } = rules;
     match scopes.last() {
-        Some(scope) => stopped(scope.line, Cause::NotClosed),
+        Some(scope) => stop(scope.line, ImportCause::NotClosed),
         None => Ok(list),
     }
 }

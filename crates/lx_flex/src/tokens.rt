@@ -116,7 +116,7 @@ impl<'a> Tokens<'a> {
     }
 
     /// Skips blanks and comments.
-    fn skip_nothing(&mut self) {
+    fn skip_blanks_and_comments(&mut self) {
         for _ in 0..self.text.len() {
             let rest = skip(self.at, self.text);
             let length = blank_length(rest).saturating_add(comment_length(skip(
@@ -132,7 +132,7 @@ impl<'a> Tokens<'a> {
 
     /// Returns the next word or mark.
     pub(crate) fn next(&mut self) -> Option<Token<'a>> {
-        self.skip_nothing();
+        self.skip_blanks_and_comments();
         let rest = skip(self.at, self.text);
         let (first, more) = rest.split_first()?;
         let byte = *first;

@@ -4,8 +4,8 @@ use Rattle.std.specs.List.{list_any}
 use Rattle.lx_ere.specs.Bytes.{is_between}
 use Rattle.lx_flex_pattern.specs.declared.classes.Class.{Class}
 use Rattle.lx_flex_pattern.specs.declared.classes.Class.TheVariants.{Alnum, Alpha, Blank, Cntrl, Digit, Graph, Lower, Print, Punct, Space, Upper, Xdigit}
-use Rattle.lx_flex_pattern.specs.declared.trees.Member.{Member}
-use Rattle.lx_flex_pattern.specs.declared.trees.Member.TheVariants as member
+use Rattle.lx_flex_pattern.specs.declared.trees.SetMember.{SetMember}
+use Rattle.lx_flex_pattern.specs.declared.trees.SetMember.TheVariants as member
 
 abbrev pub is_upper : ℕ → Bool
 is_upper b = is_between 65 90 b
@@ -40,11 +40,11 @@ abbrev pub range_has : Bool → ℕ → ℕ → ℕ → Bool
 range_has fold low high b = is_between low high b || (fold && (is_letter low && (is_letter high && is_between (other_case low) (other_case high) b)))
 
 -- The bytes of a member of brackets: a byte or a range, a class `[:alpha:]`, and all that a class hasn't, `[:^alpha:]`.
-abbrev pub member_has : Bool → Member → ℕ → Bool
+abbrev pub member_has : Bool → SetMember → ℕ → Bool
 member_has fold (member.Range low high) b = range_has fold low high b
 member_has fold (member.Class class) b = class_has fold class b
 member_has fold (member.NotClass class) b = not (class_has false class b)
 
 -- The bytes of the members; with `^`, all others.
-abbrev pub set_has : (excluded fold : Bool) (members : List Member) → ℕ → Bool
+abbrev pub set_has : (excluded fold : Bool) (members : List SetMember) → ℕ → Bool
 set_has excluded fold members b = if excluded then not (list_any (λ m. member_has fold m b) members) else list_any (λ m. member_has fold m b) members

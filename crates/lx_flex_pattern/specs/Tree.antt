@@ -1,12 +1,12 @@
 -- flex's patterns as plain trees (flex's manual, "Patterns").
 use Rattle.std.specs.Prelude.{ℕ, Bool, List, Option}
-use Rattle.lx_flex_pattern.specs.declared.trees.Member.{Member}
+use Rattle.lx_flex_pattern.specs.declared.trees.SetMember.{SetMember}
 
 pub data Tree : Type 0 where
   -- `""`, the empty word
   empty : Tree
   -- one byte of a set: a byte, an escape, `.` or brackets
-  one_of : (excluded fold : Bool) (members : List Member) → Tree
+  one_of : (excluded fold : Bool) (members : List SetMember) → Tree
   -- the first, then the second
   then : Tree → Tree → Tree
   -- either

@@ -1,6 +1,6 @@
 -- The plain trees that the values of the code are.
 use Rattle.lx_flex_pattern.specs.Tree as plain
-use Rattle.lx_flex_pattern.specs.declared.trees.Pattern.{Pattern}
+use Rattle.lx_flex_pattern.specs.declared.trees.FlexPattern.{FlexPattern}
 use Rattle.lx_flex_pattern.specs.declared.trees.Tree.{Tree}
 use Rattle.lx_flex_pattern.specs.declared.trees.Tree.TheVariants as code
 
@@ -13,5 +13,5 @@ tree_of (code.Times' p body low high) = plain.times (tree_of body) low high
 tree_of (code.Name name) = plain.named (name.items)
 
 -- the plain pattern that a pattern is
-abbrev pub pattern_of : Pattern → plain.Pattern
+abbrev pub pattern_of : FlexPattern → plain.Pattern
 pattern_of p = record { line_begin = p.line_begin; line_end = p.line_end; tree = tree_of p.tree }

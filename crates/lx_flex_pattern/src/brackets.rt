@@ -2,10 +2,10 @@
 
 use crate::classes::Class;
 use crate::escapes::read_escape;
-use crate::fault::Cause;
+use crate::fault::PatternFault;
 use crate::sets::set_has;
 use crate::source::{MAX_FLEX_PATTERN_BYTES, Source, front, skip};
-use crate::trees::{Member, Tree};
+use crate::trees::{SetMember, Tree};
 use std::alloc::{AllocError, Global};
 
 /// Classes by their names.
@@ -65,21 +65,21 @@ fn class_length(source: &Source) -> Option<usize> {
 }
 
 /// Reads a class of `length` bytes.
-fn read_class(source: &mut Source, length: usize, fold: bool) -> Result<Member, Cause> {
+fn read_class(source: &mut Source, length: usize, fold: bool) -> Result<SetMember, PatternFault> {
     let negated = source.peek_at(2) == Some(b'^');
     let start: usize = if negated { 3 } else { 2 };
     let letters = length.saturating_sub(start.saturating_add(2));
     let Some(class) = class_of(front(letters, skip(start, source.rest()))) else {
-        return Err(Cause::NoForm);
+        return Err(PatternFault::NoForm);
     };
     source.advance(length);
     if !negated {
-        return Ok(Member::Class(class));
+        return Ok(SetMember::Class(class));
     }
     if fold && (class == Class::Upper || class == Class::Lower) {
-        return Err(Cause::AmbiguousClass);
+        return Err(PatternFault::AmbiguousClass);
     }
-    Ok(Member::NotClass(class))
+    Ok(SetMember::NotClass(class))
 }
 
 /// Returns true if a `-` that means a range is next: a byte other than the closing bracket follows it.
@@ -91,12 +91,12 @@ fn is_at_range(source: &Source) -> bool {
 }
 
 /// Reads one byte of brackets: an escape, or the byte for itself.
-fn read_point(source: &mut Source) -> Result<u8, Cause> {
+fn read_point(source: &mut Source) -> Result<u8, PatternFault> {
     let Some(byte) = source.peek() else {
-        return Err(Cause::NotClosed);
+        return Err(PatternFault::NotClosed);
     };
     if byte == b'\n' {
-        return Err(Cause::NotClosed);
+        return Err(PatternFault::NotClosed);
     }
     source.advance(1);
     if byte == b'\\' {
@@ -106,28 +106,28 @@ fn read_point(source: &mut Source) -> Result<u8, Cause> {
 }
 
 /// Reads the last byte of a range, starting after its `-`.
-fn read_range_end(source: &mut Source, low: u8) -> Result<Member, Cause> {
+fn read_range_end(source: &mut Source, low: u8) -> Result<SetMember, PatternFault> {
     if is_at_range(source) || class_length(source).is_some() {
-        return Err(Cause::NoForm);
+        return Err(PatternFault::NoForm);
     }
     let high = read_point(source)?;
     if high < low {
-        return Err(Cause::NoForm);
+        return Err(PatternFault::NoForm);
     }
-    Ok(Member::Range(low, high))
+    Ok(SetMember::Range(low, high))
 }
 
 /// Reads a member of brackets.
-fn read_member(source: &mut Source, first: bool, fold: bool) -> Result<Member, Cause> {
+fn read_member(source: &mut Source, first: bool, fold: bool) -> Result<SetMember, PatternFault> {
     if let Some(length) = class_length(source) {
         return read_class(source, length, fold);
     }
     if !first && is_at_range(source) {
-        return Err(Cause::NoForm);
+        return Err(PatternFault::NoForm);
     }
     let low = read_point(source)?;
     if !is_at_range(source) {
-        return Ok(Member::Range(low, low));
+        return Ok(SetMember::Range(low, low));
     }
     source.advance(1);
     read_range_end(source, low)
@@ -146,7 +146,11 @@ fn read_caret(source: &mut Source) -> bool {
 }
 
 /// Reads brackets, starting after the `[`.
-pub(crate) fn read_brackets(alloc: Global, source: &mut Source, fold: bool) -> Result<Tree, Cause> {
+pub(crate) fn read_brackets(
+    alloc: Global,
+    source: &mut Source,
+    fold: bool,
+) -> Result<Tree, PatternFault> {
     let excluded = read_caret(source);
     let mut members = Vec::new(alloc);
     for _ in 0..MAX_FLEX_PATTERN_BYTES {
@@ -161,11 +165,11 @@ pub(crate) fn read_brackets(alloc: Global, source: &mut Source, fold: bool) -> R
         let member = read_member(source, members.is_empty(), fold)?;
         members.push(member)?;
     }
-    Err(Cause::TooLarge)
+    Err(PatternFault::TooLarge)
 }
 
 /// Returns the ranges of the bytes whose flags are set.
-fn ranges_of(alloc: Global, flags: &[bool]) -> Result<Vec<Member>, AllocError> {
+fn ranges_of(alloc: Global, flags: &[bool]) -> Result<Vec<SetMember>, AllocError> {
     let mut ranges = Vec::new(alloc);
     let mut first: Option<u8> = None;
     let mut last: u8 = 0;
@@ -177,13 +181,13 @@ fn ranges_of(alloc: Global, flags: &[bool]) -> Result<Vec<Member>, AllocError> {
             }
             last = byte;
         } else if let Some(low) = first {
-            ranges.push(Member::Range(low, last))?;
+            ranges.push(SetMember::Range(low, last))?;
             first = None;
         }
         byte = byte.saturating_add(1);
     }
     if let Some(low) = first {
-        ranges.push(Member::Range(low, last))?;
+        ranges.push(SetMember::Range(low, last))?;
     }
     Ok(ranges)
 }
@@ -233,7 +237,7 @@ pub(crate) fn is_excluded(tree: &Tree) -> bool {
 }
 
 /// Returns the set of `[..]{+}[..]` or `[..]{-}[..]`. A set without bytes is written as the exclusion of all bytes.
-pub(crate) fn combined(
+pub(crate) fn combine(
     alloc: Global,
     left: &Tree,
     right: &Tree,
@@ -243,7 +247,7 @@ pub(crate) fn combined(
     let mut members = ranges_of(alloc, flags.as_slice())?;
     let excluded = members.is_empty();
     if excluded {
-        members.push(Member::Range(0, 255))?;
+        members.push(SetMember::Range(0, 255))?;
     }
     Ok(Tree::OneOf {
         excluded,

@@ -1,6 +1,6 @@
 //! Reads escapes (flex's manual, "Patterns": `\n`, `\123`, `\x2a`), numbers and names.
 
-use crate::fault::Cause;
+use crate::fault::PatternFault;
 use crate::source::Source;
 use std::alloc::{AllocError, Global};
 
@@ -45,20 +45,20 @@ fn read_digits(source: &mut Source, base: u16, most: usize) -> u16 {
     number
 }
 
-fn byte_of(number: u16) -> Result<u8, Cause> {
+fn byte_of(number: u16) -> Result<u8, PatternFault> {
     match u8::try_from(number) {
         Ok(byte) => Ok(byte),
-        Err(_) => Err(Cause::LargeEscape),
+        Err(_) => Err(PatternFault::LargeEscape),
     }
 }
 
 /// Reads the byte of an escape, starting after the backslash.
-pub(crate) fn read_escape(source: &mut Source) -> Result<u8, Cause> {
+pub(crate) fn read_escape(source: &mut Source) -> Result<u8, PatternFault> {
     let Some(next) = source.peek() else {
-        return Err(Cause::NotClosed);
+        return Err(PatternFault::NotClosed);
     };
     if next == b'\n' {
-        return Err(Cause::NoForm);
+        return Err(PatternFault::NoForm);
     }
     if digit_value(8, next).is_some() {
         return byte_of(read_digits(source, 8, 3));
@@ -78,52 +78,52 @@ pub(crate) fn is_digit(byte: Option<u8>) -> bool {
 }
 
 /// Reads a bound of an interval: decimal digits.
-fn read_bound(source: &mut Source) -> Result<u8, Cause> {
+fn read_bound(source: &mut Source) -> Result<u8, PatternFault> {
     if !is_digit(source.peek()) {
-        return Err(Cause::BadInterval);
+        return Err(PatternFault::BadInterval);
     }
     let number = read_digits(source, 10, 4096);
     match u8::try_from(number) {
         Ok(bound) => Ok(bound),
-        Err(_) => Err(Cause::LargeInterval),
+        Err(_) => Err(PatternFault::LargeInterval),
     }
 }
 
 /// Checks the bounds of an interval as flex does: the last is at least the first, and not 0.
-fn checked(low: u8, high: Option<u8>) -> Result<(u8, Option<u8>), Cause> {
+fn check_interval(low: u8, high: Option<u8>) -> Result<(u8, Option<u8>), PatternFault> {
     match high {
         Some(high) => {
             if high == 0 || high < low {
-                return Err(Cause::BadInterval);
+                return Err(PatternFault::BadInterval);
             }
         }
         None => {
             if low == 0 {
-                return Err(Cause::BadInterval);
+                return Err(PatternFault::BadInterval);
             }
         }
     }
     Ok((low, high))
 }
 
-fn read_high(source: &mut Source, low: u8) -> Result<(u8, Option<u8>), Cause> {
+fn read_high(source: &mut Source, low: u8) -> Result<(u8, Option<u8>), PatternFault> {
     if !source.is_at(b',') {
-        return checked(low, Some(low));
+        return check_interval(low, Some(low));
     }
     source.advance(1);
     if source.is_at(b'}') {
-        return checked(low, None);
+        return check_interval(low, None);
     }
     let high = read_bound(source)?;
-    checked(low, Some(high))
+    check_interval(low, Some(high))
 }
 
 /// Reads the bounds of an interval, starting after the `{`.
-pub(crate) fn read_interval(source: &mut Source) -> Result<(u8, Option<u8>), Cause> {
+pub(crate) fn read_interval(source: &mut Source) -> Result<(u8, Option<u8>), PatternFault> {
     let low = read_bound(source)?;
     let bounds = read_high(source, low)?;
     if !source.is_at(b'}') {
-        return Err(Cause::BadInterval);
+        return Err(PatternFault::BadInterval);
     }
     source.advance(1);
     Ok(bounds)

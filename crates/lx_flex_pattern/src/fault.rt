@@ -5,7 +5,7 @@ use thiserror::Error;
 
 /// The fault of a pattern.
 #[derive(Debug, Clone, Copy, PartialEq, Eq, Error)]
-pub enum Cause {
+pub enum PatternFault {
     /// flex doesn't support this form.
     #[error("flex has no such pattern")]
     NoForm,
@@ -41,14 +41,14 @@ pub enum Cause {
     Memory,
 }
 
-impl From<AllocError> for Cause {
-    fn from(_e: AllocError) -> Cause {
-        Cause::Memory
+impl From<AllocError> for PatternFault {
+    fn from(_e: AllocError) -> PatternFault {
+        PatternFault::Memory
     }
 }
 
-impl<T: Drop> From<AllocFailed<T>> for Cause {
-    fn from(_e: AllocFailed<T>) -> Cause {
-        Cause::Memory
+impl<T: Drop> From<AllocFailed<T>> for PatternFault {
+    fn from(_e: AllocFailed<T>) -> PatternFault {
+        PatternFault::Memory
     }
 }

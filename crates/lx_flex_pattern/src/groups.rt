@@ -1,6 +1,6 @@
 //! The open groups while a pattern is read from left to right. They are on the heap, so that nesting takes no stack.
 
-use crate::fault::Cause;
+use crate::fault::PatternFault;
 use crate::trees::Tree;
 use std::alloc::{AllocError, Global};
 use std::mem;
@@ -24,7 +24,7 @@ pub struct Flags {
 
 /// The part of an open group that was read.
 #[derive(Drop)]
-struct Frame {
+struct OpenGroup {
     /// Alternatives before the last bar.
     before: Option<Tree>,
     /// Branch after that bar, without its last unit.
@@ -37,16 +37,16 @@ struct Frame {
 
 /// The innermost open group, and those around it.
 #[derive(Drop)]
-pub(crate) struct Groups {
-    top: Frame,
-    below: Vec<Frame>,
+pub(crate) struct GroupStack {
+    top: OpenGroup,
+    below: Vec<OpenGroup>,
     parts: u16,
     /// Flags at the current position.
     pub(crate) flags: Flags,
 }
 
-fn empty_frame(flags: Flags) -> Frame {
-    Frame {
+fn empty_frame(flags: Flags) -> OpenGroup {
+    OpenGroup {
         before: None,
         branch: None,
         unit: None,
@@ -72,8 +72,8 @@ fn whole(
 }
 
 /// Returns the alternation that was read. Returns `None` if nothing follows its last bar.
-fn total(alloc: Global, frame: Frame) -> Result<Option<Tree>, AllocError> {
-    let Frame {
+fn total(alloc: Global, frame: OpenGroup) -> Result<Option<Tree>, AllocError> {
+    let OpenGroup {
         before,
         branch,
         unit,
@@ -91,10 +91,10 @@ fn total(alloc: Global, frame: Frame) -> Result<Option<Tree>, AllocError> {
     }
 }
 
-impl Groups {
+impl GroupStack {
     /// Returns the state before anything is read, without an open group.
-    pub(crate) fn new(alloc: Global, flags: Flags) -> Groups {
-        Groups {
+    pub(crate) fn new(alloc: Global, flags: Flags) -> GroupStack {
+        GroupStack {
             top: empty_frame(flags),
             below: Vec::new(alloc),
             parts: 0,
@@ -111,16 +111,16 @@ impl Groups {
         self.parts == 0 && self.below.is_empty()
     }
 
-    fn count_part(&mut self) -> Result<(), Cause> {
+    fn count_part(&mut self) -> Result<(), PatternFault> {
         if self.parts >= MAX_PARTS {
-            return Err(Cause::TooLarge);
+            return Err(PatternFault::TooLarge);
         }
         self.parts = self.parts.saturating_add(1);
         Ok(())
     }
 
     /// Appends a unit.
-    pub(crate) fn push(&mut self, alloc: Global, unit: Tree) -> Result<(), Cause> {
+    pub(crate) fn push(&mut self, alloc: Global, unit: Tree) -> Result<(), PatternFault> {
         self.count_part()?;
         let branch = self.top.branch.take();
         let last = self.top.unit.take();
@@ -140,10 +140,15 @@ impl Groups {
     }
 
     /// Repeats the last unit.
-    pub(crate) fn repeat(&mut self, alloc: Global, low: u8, high: Option<u8>) -> Result<(), Cause> {
+    pub(crate) fn repeat(
+        &mut self,
+        alloc: Global,
+        low: u8,
+        high: Option<u8>,
+    ) -> Result<(), PatternFault> {
         self.count_part()?;
         let Some(unit) = self.top.unit.take() else {
-            return Err(Cause::NoForm);
+            return Err(PatternFault::NoForm);
         };
         let body = Box::new(alloc, unit)?;
         self.top.unit = Some(Tree::Times { body, low, high });
@@ -156,12 +161,12 @@ impl Groups {
         alloc: Global,
         low: u8,
         high: Option<u8>,
-    ) -> Result<(), Cause> {
+    ) -> Result<(), PatternFault> {
         self.count_part()?;
         let branch = self.top.branch.take();
         let last = self.top.unit.take();
         let Some(branch) = whole(alloc, branch, last)? else {
-            return Err(Cause::NoForm);
+            return Err(PatternFault::NoForm);
         };
         let body = Box::new(alloc, branch)?;
         self.top.branch = Some(Tree::Times { body, low, high });
@@ -169,9 +174,9 @@ impl Groups {
     }
 
     /// Opens a group with these flags.
-    pub(crate) fn open(&mut self, flags: Flags) -> Result<(), Cause> {
+    pub(crate) fn open(&mut self, flags: Flags) -> Result<(), PatternFault> {
         if self.below.len() >= MAX_OPEN_GROUPS {
-            return Err(Cause::TooLarge);
+            return Err(PatternFault::TooLarge);
         }
         let outer = mem::replace(&mut self.top, empty_frame(self.flags));
         self.below.push(outer)?;
@@ -180,39 +185,39 @@ impl Groups {
     }
 
     /// Closes the innermost group.
-    pub(crate) fn close(&mut self, alloc: Global) -> Result<(), Cause> {
+    pub(crate) fn close(&mut self, alloc: Global) -> Result<(), PatternFault> {
         let Some(outer) = self.below.pop() else {
-            return Err(Cause::NoForm);
+            return Err(PatternFault::NoForm);
         };
         let inner = mem::replace(&mut self.top, outer);
         self.flags = inner.flags;
         let Some(tree) = total(alloc, inner)? else {
-            return Err(Cause::NoForm);
+            return Err(PatternFault::NoForm);
         };
         self.push(alloc, tree)
     }
 
     /// Ends an alternative.
-    pub(crate) fn next_alternative(&mut self, alloc: Global) -> Result<(), Cause> {
+    pub(crate) fn next_alternative(&mut self, alloc: Global) -> Result<(), PatternFault> {
         let flags = self.top.flags;
         let frame = mem::replace(&mut self.top, empty_frame(flags));
         let Some(tree) = total(alloc, frame)? else {
-            return Err(Cause::NoForm);
+            return Err(PatternFault::NoForm);
         };
         self.top.before = Some(tree);
         Ok(())
     }
 
     /// Returns the alternation that was read, if no group is open and something follows the last bar. Then begins anew.
-    pub(crate) fn finish(&mut self, alloc: Global) -> Result<Tree, Cause> {
+    pub(crate) fn finish(&mut self, alloc: Global) -> Result<Tree, PatternFault> {
         if self.is_open() {
-            return Err(Cause::NotClosed);
+            return Err(PatternFault::NotClosed);
         }
         let flags = self.top.flags;
         let frame = mem::replace(&mut self.top, empty_frame(flags));
         match total(alloc, frame)? {
             Some(tree) => Ok(tree),
-            None => Err(Cause::NoForm),
+            None => Err(PatternFault::NoForm),
         }
     }
 }

@@ -16,8 +16,8 @@ pub mod translation;
 pub mod trees;
 
 pub use crate::classes::Class;
-pub use crate::fault::Cause;
-pub use crate::names::{Definition, Names};
-pub use crate::reading::{Options, Reading, read_pattern};
+pub use crate::fault::PatternFault;
+pub use crate::names::{NamedPattern, Names};
+pub use crate::reading::{PatternOptions, Reading, read_pattern};
 pub use crate::translation::{has_same_texts, is_read_as, translate, translate_substitute};
-pub use crate::trees::{Member, Pattern, Tree};
+pub use crate::trees::{FlexPattern, SetMember, Tree};

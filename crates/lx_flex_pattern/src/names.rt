@@ -5,7 +5,7 @@ use std::collections::BTreeMap;
 
 /// A definition.
 #[derive(Drop)]
-pub struct Definition {
+pub struct NamedPattern {
     /// Text of the definition, as flex has it.
     pub text: Vec<u8>,
     /// Name of the definition in lx. `None` if its text is expanded at each use.
@@ -15,7 +15,7 @@ pub struct Definition {
 /// The definitions by their names.
 #[derive(Drop)]
 pub struct Names {
-    entries: BTreeMap<Vec<u8>, Definition>,
+    entries: BTreeMap<Vec<u8>, NamedPattern>,
 }
 
 impl Names {
@@ -27,7 +27,7 @@ impl Names {
     }
 
     /// Returns the definition of a name.
-    pub fn get(&self, name: &[u8]) -> Option<&Definition> {
+    pub fn get(&self, name: &[u8]) -> Option<&NamedPattern> {
         self.entries.get(name)
     }
 
@@ -44,7 +44,7 @@ impl Names {
         text: &[u8],
         lx_name: Option<Vec<u8>>,
     ) -> Result<(), AllocError> {
-        let definition = Definition {
+        let definition = NamedPattern {
             text: Vec::from_slice(alloc, text)?,
             lx_name,
         };

@@ -1,7 +1,7 @@
 //! Prints patterns in lx's syntax.
 
 use crate::classes::{Class, class_has, is_letter, other_case};
-use crate::trees::{Member, Pattern, Tree};
+use crate::trees::{FlexPattern, SetMember, Tree};
 use itoa::Buffer;
 use std::alloc::{AllocError, Global};
 
@@ -145,9 +145,9 @@ fn push_other_bytes(text: &mut Vec<u8>, class: Class) -> Result<(), AllocError> 
     }
 }
 
-fn push_member(text: &mut Vec<u8>, member: Member, fold: bool) -> Result<(), AllocError> {
+fn push_member(text: &mut Vec<u8>, member: SetMember, fold: bool) -> Result<(), AllocError> {
     match member {
-        Member::Range(low, high) => {
+        SetMember::Range(low, high) => {
             push_range(text, low, high)?;
             let other_low = other_case(low);
             let other_high = other_case(high);
@@ -156,8 +156,8 @@ fn push_member(text: &mut Vec<u8>, member: Member, fold: bool) -> Result<(), All
             }
             Ok(())
         }
-        Member::Class(class) => push_class(text, class, fold),
-        Member::NotClass(class) => push_other_bytes(text, class),
+        SetMember::Class(class) => push_class(text, class, fold),
+        SetMember::NotClass(class) => push_other_bytes(text, class),
     }
 }
 
@@ -165,7 +165,7 @@ fn push_brackets(
     text: &mut Vec<u8>,
     excluded: bool,
     fold: bool,
-    members: &[Member],
+    members: &[SetMember],
 ) -> Result<(), AllocError> {
     push(text, if excluded { b"[^" } else { b"[" })?;
     for member in members {
@@ -175,9 +175,9 @@ fn push_brackets(
 }
 
 /// Returns the byte of a set that has no other one, even if case is ignored.
-fn single_byte(excluded: bool, fold: bool, members: &[Member]) -> Option<u8> {
+fn single_byte(excluded: bool, fold: bool, members: &[SetMember]) -> Option<u8> {
     match members {
-        [Member::Range(low, high)] => {
+        [SetMember::Range(low, high)] => {
             if excluded || low != high || (fold && is_letter(*low)) {
                 None
             } else {
@@ -192,12 +192,12 @@ fn push_set(
     text: &mut Vec<u8>,
     excluded: bool,
     fold: bool,
-    members: &[Member],
+    members: &[SetMember],
 ) -> Result<(), AllocError> {
     if let Some(byte) = single_byte(excluded, fold, members) {
         return push_single(text, byte);
     }
-    if excluded && members == [Member::Range(b'\n', b'\n')].as_slice() {
+    if excluded && members == [SetMember::Range(b'\n', b'\n')].as_slice() {
         return push(text, b".");
     }
     push_brackets(text, excluded, fold, members)
@@ -348,7 +348,7 @@ pub(crate) fn printed_tree(alloc: Global, tree: &Tree) -> Result<Vec<u8>, AllocE
 }
 
 /// Prints the pattern in lx's syntax.
-pub(crate) fn printed(alloc: Global, pattern: &Pattern) -> Result<Vec<u8>, AllocError> {
+pub(crate) fn print_pattern(alloc: Global, pattern: &FlexPattern) -> Result<Vec<u8>, AllocError> {
     let mut text = Vec::new(alloc);
     push_if(&mut text, pattern.line_begin, b"^")?;
     push_tree(&pattern.tree, &mut text, alloc, Level::Alternation)?;

@@ -1,13 +1,13 @@
 //! Reads flex patterns once from left to right (flex's manual, "Patterns").
 
-use crate::brackets::{combined, is_excluded, read_brackets};
+use crate::brackets::{combine, is_excluded, read_brackets};
 use crate::classes::is_letter;
 use crate::escapes::{is_digit, read_escape, read_interval, read_name};
-use crate::fault::Cause;
-use crate::groups::{Flags, Groups};
+use crate::fault::PatternFault;
+use crate::groups::{Flags, GroupStack};
 use crate::names::Names;
 use crate::source::{MAX_FLEX_PATTERN_BYTES, Source, front};
-use crate::trees::{Member, Pattern, Tree};
+use crate::trees::{FlexPattern, SetMember, Tree};
 use std::alloc::{AllocError, Global};
 
 /// Greatest number of steps of reading. Each one takes a byte or inserts a definition.
@@ -15,7 +15,7 @@ const MAX_STEPS: u32 = 32_768;
 
 /// The options for reading a file's patterns.
 #[derive(Debug, Clone, Copy, PartialEq, Eq)]
-pub struct Options {
+pub struct PatternOptions {
     /// True if case is ignored: `%option case-insensitive`.
     pub fold: bool,
     /// True if an interval repeats all to its left, and `(?` has no special meaning: `%option posix-compat` and `lex-compat`.
@@ -28,7 +28,7 @@ pub struct Options {
 #[derive(Debug, Drop)]
 pub struct Reading {
     /// The pattern, without its trailing context (`r/s`).
-    pub pattern: Pattern,
+    pub pattern: FlexPattern,
     /// True if there is a trailing context other than a newline.
     pub trailing: bool,
     /// Number of bytes of the pattern.
@@ -37,9 +37,9 @@ pub struct Reading {
 
 /// The state while a pattern is read.
 #[derive(Drop)]
-struct State {
+struct ReadingState {
     source: Source,
-    groups: Groups,
+    groups: GroupStack,
     /// True if the last unit is brackets, after which `{-}` and `{+}` may follow.
     brackets: bool,
     line_begin: bool,
@@ -48,7 +48,7 @@ struct State {
     head: Option<Tree>,
 }
 
-fn base_flags(options: Options) -> Flags {
+fn base_flags(options: PatternOptions) -> Flags {
     Flags {
         fold: options.fold,
         dot_all: false,
@@ -59,7 +59,7 @@ fn base_flags(options: Options) -> Flags {
 /// Returns the set of one byte.
 fn byte_tree(alloc: Global, byte: u8, fold: bool) -> Result<Tree, AllocError> {
     let mut members = Vec::new(alloc);
-    members.push(Member::Range(byte, byte))?;
+    members.push(SetMember::Range(byte, byte))?;
     Ok(Tree::OneOf {
         excluded: false,
         fold: fold && is_letter(byte),
@@ -71,9 +71,9 @@ fn byte_tree(alloc: Global, byte: u8, fold: bool) -> Result<Tree, AllocError> {
 fn period_tree(alloc: Global, dot_all: bool) -> Result<Tree, AllocError> {
     let mut members = Vec::new(alloc);
     if dot_all {
-        members.push(Member::Range(0, 255))?;
+        members.push(SetMember::Range(0, 255))?;
     } else {
-        members.push(Member::Range(b'\n', b'\n'))?;
+        members.push(SetMember::Range(b'\n', b'\n'))?;
     }
     Ok(Tree::OneOf {
         excluded: !dot_all,
@@ -83,12 +83,12 @@ fn period_tree(alloc: Global, dot_all: bool) -> Result<Tree, AllocError> {
 }
 
 /// Reads a byte of a quoted string.
-fn read_quoted_byte(source: &mut Source) -> Result<u8, Cause> {
+fn read_quoted_byte(source: &mut Source) -> Result<u8, PatternFault> {
     let Some(byte) = source.peek() else {
-        return Err(Cause::NotClosed);
+        return Err(PatternFault::NotClosed);
     };
     if byte == b'\n' {
-        return Err(Cause::NotClosed);
+        return Err(PatternFault::NotClosed);
     }
     source.advance(1);
     if byte == b'\\' {
@@ -98,7 +98,7 @@ fn read_quoted_byte(source: &mut Source) -> Result<u8, Cause> {
 }
 
 /// Reads a quoted string, starting after the `"`.
-fn read_quoted(alloc: Global, source: &mut Source, fold: bool) -> Result<Tree, Cause> {
+fn read_quoted(alloc: Global, source: &mut Source, fold: bool) -> Result<Tree, PatternFault> {
     let mut string: Option<Tree> = None;
     for _ in 0..1024 {
         if source.is_at(b'"') {
@@ -116,27 +116,27 @@ fn read_quoted(alloc: Global, source: &mut Source, fold: bool) -> Result<Tree, C
             }
         };
     }
-    Err(Cause::TooLarge)
+    Err(PatternFault::TooLarge)
 }
 
-fn push_byte(alloc: Global, state: &mut State, byte: u8) -> Result<(), Cause> {
+fn push_byte(alloc: Global, state: &mut ReadingState, byte: u8) -> Result<(), PatternFault> {
     let unit = byte_tree(alloc, byte, state.groups.flags.fold)?;
     state.groups.push(alloc, unit)
 }
 
 /// Skips the text up to and including this mark.
-fn skip_comment(source: &mut Source, mark: &[u8]) -> Result<(), Cause> {
+fn skip_comment(source: &mut Source, mark: &[u8]) -> Result<(), PatternFault> {
     for _ in 0..MAX_FLEX_PATTERN_BYTES {
         if source.begins_with(mark) {
             source.advance(mark.len());
             return Ok(());
         }
         if source.peek().is_none() {
-            return Err(Cause::NotClosed);
+            return Err(PatternFault::NotClosed);
         }
         source.advance(1);
     }
-    Err(Cause::NotClosed)
+    Err(PatternFault::NotClosed)
 }
 
 fn with_flag(flags: Flags, letter: u8, on: bool) -> Option<Flags> {
@@ -155,12 +155,12 @@ fn with_flag(flags: Flags, letter: u8, on: bool) -> Option<Flags> {
 }
 
 /// Reads the flags of a group, from after `(?` to after the colon.
-fn read_flags(source: &mut Source, outer: Flags) -> Result<Flags, Cause> {
+fn read_flags(source: &mut Source, outer: Flags) -> Result<Flags, PatternFault> {
     let mut flags = outer;
     let mut on = true;
     for _ in 0..MAX_FLEX_PATTERN_BYTES {
         let Some(letter) = source.peek() else {
-            return Err(Cause::NotClosed);
+            return Err(PatternFault::NotClosed);
         };
         source.advance(1);
         if letter == b':' {
@@ -171,15 +171,15 @@ fn read_flags(source: &mut Source, outer: Flags) -> Result<Flags, Cause> {
         } else {
             flags = match with_flag(flags, letter, on) {
                 Some(flags) => flags,
-                None => return Err(Cause::NoForm),
+                None => return Err(PatternFault::NoForm),
             };
         }
     }
-    Err(Cause::NoForm)
+    Err(PatternFault::NoForm)
 }
 
 /// Reads a group's opening, starting after the `(`.
-fn read_open(state: &mut State, options: Options) -> Result<(), Cause> {
+fn read_open(state: &mut ReadingState, options: PatternOptions) -> Result<(), PatternFault> {
     let flags = state.groups.flags;
     if options.posix || !state.source.is_at(b'?') {
         return state.groups.open(flags);
@@ -193,14 +193,19 @@ fn read_open(state: &mut State, options: Options) -> Result<(), Cause> {
 }
 
 /// Inserts a definition's text before the rest of the text.
-fn inline(alloc: Global, state: &mut State, text: &[u8], bare: bool) -> Result<(), Cause> {
+fn inline(
+    alloc: Global,
+    state: &mut ReadingState,
+    text: &[u8],
+    bare: bool,
+) -> Result<(), PatternFault> {
     let begins = front(1, text) == b"^".as_slice();
     let ends = match text.last() {
         Some(last) => *last == b'$',
         None => false,
     };
     if begins && !(state.groups.is_fresh() && state.head.is_none() && !state.line_begin) {
-        return Err(Cause::NoForm);
+        return Err(PatternFault::NoForm);
     }
     if bare || begins || ends {
         state.source.inline(alloc, b"", text, b"")
@@ -212,15 +217,15 @@ fn inline(alloc: Global, state: &mut State, text: &[u8], bare: bool) -> Result<(
 /// Reads a name in braces, starting after the `{`.
 fn read_named(
     alloc: Global,
-    state: &mut State,
+    state: &mut ReadingState,
     names: &Names,
-    options: Options,
-) -> Result<(), Cause> {
+    options: PatternOptions,
+) -> Result<(), PatternFault> {
     let Some(name) = read_name(alloc, &mut state.source)? else {
-        return Err(Cause::NoForm);
+        return Err(PatternFault::NoForm);
     };
     let Some(definition) = names.get(name.as_slice()) else {
-        return Err(Cause::Undefined);
+        return Err(PatternFault::Undefined);
     };
     if state.groups.flags == base_flags(options) && !options.bare_names {
         if let Some(lx_name) = &definition.lx_name {
@@ -232,19 +237,23 @@ fn read_named(
 }
 
 /// Reads the brackets after `{-}` or `{+}`, starting after the `}`.
-fn read_combination(alloc: Global, state: &mut State, union: bool) -> Result<(), Cause> {
+fn read_combination(
+    alloc: Global,
+    state: &mut ReadingState,
+    union: bool,
+) -> Result<(), PatternFault> {
     if !state.brackets || !state.source.is_at(b'[') {
-        return Err(Cause::NoForm);
+        return Err(PatternFault::NoForm);
     }
     state.source.advance(1);
     let right = read_brackets(alloc, &mut state.source, state.groups.flags.fold)?;
     let Some(left) = state.groups.take_unit() else {
-        return Err(Cause::NoForm);
+        return Err(PatternFault::NoForm);
     };
     if union && (is_excluded(&left) || is_excluded(&right)) {
-        return Err(Cause::ExcludedUnion);
+        return Err(PatternFault::ExcludedUnion);
     }
-    let unit = combined(alloc, &left, &right, union)?;
+    let unit = combine(alloc, &left, &right, union)?;
     state.groups.put_unit(unit);
     Ok(())
 }
@@ -252,10 +261,10 @@ fn read_combination(alloc: Global, state: &mut State, union: bool) -> Result<(),
 /// Reads the text after a `{`. Returns true if the last unit is then brackets.
 fn read_brace(
     alloc: Global,
-    state: &mut State,
+    state: &mut ReadingState,
     names: &Names,
-    options: Options,
-) -> Result<bool, Cause> {
+    options: PatternOptions,
+) -> Result<bool, PatternFault> {
     if state.source.begins_with(b"-}") || state.source.begins_with(b"+}") {
         let union = state.source.is_at(b'+');
         state.source.advance(2);
@@ -293,9 +302,9 @@ fn is_blank(byte: u8) -> bool {
 }
 
 /// Reads the text after a `/`. The pattern up to it becomes the head, and a new one begins.
-fn read_slash(alloc: Global, state: &mut State) -> Result<(), Cause> {
+fn read_slash(alloc: Global, state: &mut ReadingState) -> Result<(), PatternFault> {
     if state.head.is_some() || state.groups.is_open() {
-        return Err(Cause::NoForm);
+        return Err(PatternFault::NoForm);
     }
     let head = state.groups.finish(alloc)?;
     state.head = Some(head);
@@ -305,11 +314,11 @@ fn read_slash(alloc: Global, state: &mut State) -> Result<(), Cause> {
 /// Reads the text after a byte with a special meaning. Returns `None` if it has none, and otherwise true if the last unit is then brackets.
 fn read_special(
     alloc: Global,
-    state: &mut State,
+    state: &mut ReadingState,
     names: &Names,
-    options: Options,
+    options: PatternOptions,
     byte: u8,
-) -> Result<Option<bool>, Cause> {
+) -> Result<Option<bool>, PatternFault> {
     let fold = state.groups.flags.fold;
     match byte {
         b'[' => {
@@ -337,14 +346,14 @@ fn read_special(
         b'?' => state.groups.repeat(alloc, 0, Some(1))?,
         b'|' => state.groups.next_alternative(alloc)?,
         b'/' => read_slash(alloc, state)?,
-        b'}' => return Err(Cause::NoForm),
+        b'}' => return Err(PatternFault::NoForm),
         _ => return Ok(None),
     }
     Ok(Some(false))
 }
 
 /// Skips blanks, newlines and comments inside `(?x:`. Returns true if there was any.
-fn skip_extended(state: &mut State, byte: u8) -> Result<bool, Cause> {
+fn skip_extended(state: &mut ReadingState, byte: u8) -> Result<bool, PatternFault> {
     if is_blank(byte) || byte == b'\n' || is_line_end(&state.source, 0) {
         state.source.advance(1);
         return Ok(true);
@@ -358,13 +367,13 @@ fn skip_extended(state: &mut State, byte: u8) -> Result<bool, Cause> {
 }
 
 /// Returns true if the pattern ends before this byte, which is next: at a blank, at a line's end, or at its final `$`.
-fn ends_at(state: &mut State, byte: u8) -> Result<bool, Cause> {
+fn ends_at(state: &mut ReadingState, byte: u8) -> Result<bool, PatternFault> {
     if is_blank(byte) || byte == b'\n' || is_line_end(&state.source, 0) {
         return Ok(true);
     }
     if byte == b'$' && is_last(&state.source) {
         if state.groups.is_open() || state.head.is_some() {
-            return Err(Cause::NoForm);
+            return Err(PatternFault::NoForm);
         }
         state.line_end = true;
         state.source.advance(1);
@@ -376,11 +385,11 @@ fn ends_at(state: &mut State, byte: u8) -> Result<bool, Cause> {
 /// Reads one more part. Returns true if the pattern goes on.
 fn step(
     alloc: Global,
-    state: &mut State,
+    state: &mut ReadingState,
     names: &Names,
-    options: Options,
+    options: PatternOptions,
     byte: u8,
-) -> Result<bool, Cause> {
+) -> Result<bool, PatternFault> {
     if state.groups.flags.extended {
         if skip_extended(state, byte)? {
             return Ok(true);
@@ -406,7 +415,12 @@ fn step(
     Ok(true)
 }
 
-fn run(alloc: Global, state: &mut State, names: &Names, options: Options) -> Result<(), Cause> {
+fn run(
+    alloc: Global,
+    state: &mut ReadingState,
+    names: &Names,
+    options: PatternOptions,
+) -> Result<(), PatternFault> {
     for _ in 0..MAX_STEPS {
         let Some(byte) = state.source.peek() else {
             return Ok(());
@@ -415,7 +429,7 @@ fn run(alloc: Global, state: &mut State, names: &Names, options: Options) -> Res
             return Ok(());
         }
     }
-    Err(Cause::TooLarge)
+    Err(PatternFault::TooLarge)
 }
 
 fn is_newline(tree: &Tree) -> bool {
@@ -424,14 +438,18 @@ fn is_newline(tree: &Tree) -> bool {
             excluded,
             fold: _,
             members,
-        } => !*excluded && members.as_slice() == [Member::Range(b'\n', b'\n')].as_slice(),
+        } => !*excluded && members.as_slice() == [SetMember::Range(b'\n', b'\n')].as_slice(),
         _ => false,
     }
 }
 
 /// Returns the pattern that was read, with its trailing context.
-fn finished(alloc: Global, state: State, window: usize) -> Result<Reading, Cause> {
-    let State {
+fn finish_pattern(
+    alloc: Global,
+    state: ReadingState,
+    window: usize,
+) -> Result<Reading, PatternFault> {
+    let ReadingState {
         source,
         mut groups,
         brackets: _,
@@ -440,7 +458,7 @@ fn finished(alloc: Global, state: State, window: usize) -> Result<Reading, Cause
         head,
     } = state;
     if !source.is_in_own_text() {
-        return Err(Cause::NotClosed);
+        return Err(PatternFault::NotClosed);
     }
     let last = groups.finish(alloc)?;
     let newline = is_newline(&last);
@@ -449,7 +467,7 @@ fn finished(alloc: Global, state: State, window: usize) -> Result<Reading, Cause
         Some(head) => (head, !newline, newline),
     };
     Ok(Reading {
-        pattern: Pattern {
+        pattern: FlexPattern {
             line_begin,
             line_end,
             tree,
@@ -467,12 +485,12 @@ pub fn read_pattern(
     alloc: Global,
     text: &[u8],
     names: &Names,
-    options: Options,
-) -> Result<Reading, Cause> {
+    options: PatternOptions,
+) -> Result<Reading, PatternFault> {
     let window = front(MAX_FLEX_PATTERN_BYTES, text);
-    let mut state = State {
+    let mut state = ReadingState {
         source: Source::new(alloc, text)?,
-        groups: Groups::new(alloc, base_flags(options)),
+        groups: GroupStack::new(alloc, base_flags(options)),
         brackets: false,
         line_begin: false,
         line_end: false,
@@ -480,7 +498,7 @@ pub fn read_pattern(
     };
     run(alloc, &mut state, names, options)?;
     if state.source.peek().is_none() && window.len() < text.len() {
-        return Err(Cause::TooLarge);
+        return Err(PatternFault::TooLarge);
     }
-    finished(alloc, state, window.len())
+    finish_pattern(alloc, state, window.len())
 }

@@ -7,7 +7,7 @@ ghost use Rattle.lx_flex_pattern.specs.Sets as specs;
 ghost use Rattle.lx_flex_pattern.specs.Mirror.{HasBytes};
 
 use crate::classes::{class_has, is_between, is_letter, other_case};
-use crate::trees::Member;
+use crate::trees::SetMember;
 use lx_ere::ByteSet;
 
 fn range_has(fold: bool, low: u8, high: u8, byte: u8) -> bool
@@ -19,17 +19,17 @@ fn range_has(fold: bool, low: u8, high: u8, byte: u8) -> bool
                 && (is_letter(high) && is_between(other_case(low), other_case(high), byte))))
 }
 
-fn member_has(fold: bool, member: Member, byte: u8) -> bool
+fn member_has(fold: bool, member: SetMember, byte: u8) -> bool
     ensures { result ≡ specs.member_has fold member byte }
 {
     match member {
-        Member::Range(low, high) => range_has(fold, low, high, byte),
-        Member::Class(class) => class_has(fold, class, byte),
-        Member::NotClass(class) => !class_has(false, class, byte),
+        SetMember::Range(low, high) => range_has(fold, low, high, byte),
+        SetMember::Class(class) => class_has(fold, class, byte),
+        SetMember::NotClass(class) => !class_has(false, class, byte),
     }
 }
 
-fn some_has(fold: bool, members: &[Member], byte: u8) -> bool
+fn some_has(fold: bool, members: &[SetMember], byte: u8) -> bool
     ensures { result ≡ list_any (λ m. specs.member_has fold m byte) members.now }
 {
     for member in members {
@@ -41,7 +41,7 @@ fn some_has(fold: bool, members: &[Member], byte: u8) -> bool
 }
 
 /// Returns true if the byte is in the set of brackets.
-pub fn set_has(excluded: bool, fold: bool, members: &[Member], byte: u8) -> bool
+pub fn set_has(excluded: bool, fold: bool, members: &[SetMember], byte: u8) -> bool
     ensures { result ≡ specs.set_has excluded fold members.now byte }
 {
     if excluded {
@@ -52,7 +52,7 @@ pub fn set_has(excluded: bool, fold: bool, members: &[Member], byte: u8) -> bool
 }
 
 // Returns true if the byte is in both sets, or in neither.
-fn agrees(found: &ByteSet, excluded: bool, fold: bool, members: &[Member], byte: u8) -> bool
+fn agrees(found: &ByteSet, excluded: bool, fold: bool, members: &[SetMember], byte: u8) -> bool
     ensures { result ≡ true
         → set.contains found.now byte ≡ specs.set_has excluded fold members.now byte }
 {
@@ -60,7 +60,7 @@ fn agrees(found: &ByteSet, excluded: bool, fold: bool, members: &[Member], byte:
 }
 
 /// Returns true if lx's set has the same bytes as the brackets.
-pub(crate) fn has_bytes(found: &ByteSet, excluded: bool, fold: bool, members: &[Member]) -> bool
+pub(crate) fn has_bytes(found: &ByteSet, excluded: bool, fold: bool, members: &[SetMember]) -> bool
     ensures { result ≡ true → HasBytes found.now (specs.set_has excluded fold members.now) }
 {
     for byte in 0..256u16 {

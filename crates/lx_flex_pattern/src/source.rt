@@ -1,6 +1,6 @@
 //! The text from which a pattern is read. An expanded definition's text is inserted before the rest.
 
-use crate::fault::Cause;
+use crate::fault::PatternFault;
 use std::alloc::{AllocError, Global};
 
 /// Greatest number of bytes of a pattern in a file, including comments within `(?x:`.
@@ -89,13 +89,13 @@ impl Source {
         open: &[u8],
         text: &[u8],
         close: &[u8],
-    ) -> Result<(), Cause> {
+    ) -> Result<(), PatternFault> {
         if self.inlined >= MAX_INLINED {
-            return Err(Cause::TooLarge);
+            return Err(PatternFault::TooLarge);
         }
         let left = self.rest().len();
         if text.len() > MAX_INLINED_BYTES || left > MAX_INLINED_BYTES {
-            return Err(Cause::TooLarge);
+            return Err(PatternFault::TooLarge);
         }
         let mut bytes = Vec::new(alloc);
         bytes.extend_from_slice(open)?;

@@ -6,10 +6,10 @@ ghost use Rattle.lx_ere.specs.Regex.{reading_of, regex_of};
 ghost use Rattle.lx_flex_pattern.specs.Translation.{HaveSameTexts, IsReadAs, IsTranslation, IsSubstituteOf};
 ghost use Rattle.lx_flex_pattern.specs.views.{pattern_of, tree_of};
 
-use crate::fault::Cause;
+use crate::fault::PatternFault;
 use crate::mirror::mirrors;
-use crate::printing::{printed, printed_tree};
-use crate::trees::{Pattern, Tree};
+use crate::printing::{print_pattern, printed_tree};
+use crate::trees::{FlexPattern, Tree};
 use lx_ere::EreFault;
 use lx_ere::read::MAX_PATTERN_BYTES;
 use std::alloc::{AllocError, Global};
@@ -44,7 +44,7 @@ pub fn has_same_texts(tree: &Tree, expr: &lx_ere::Expr) -> bool
 }
 
 /// Returns true only if lx's pattern has the anchors and the texts of flex's.
-pub fn is_read_as(pattern: &Pattern, read: &lx_ere::Pattern) -> bool
+pub fn is_read_as(pattern: &FlexPattern, read: &lx_ere::Pattern) -> bool
     ensures { result ≡ true → IsReadAs (pattern_of pattern.now) (reading_of read.now) }
 {
     if pattern.line_begin != read.line_begin {
@@ -60,35 +60,35 @@ pub fn is_read_as(pattern: &Pattern, read: &lx_ere::Pattern) -> bool
 ///
 /// Err: [`Cause::TooLarge`] if the text has more bytes than lx accepts. [`Cause::NotRead`] if lx wouldn't read it as the same pattern, which doesn't
 /// happen to the trees of `read_pattern`.
-pub fn translate(alloc: Global, pattern: &Pattern) -> Result<Vec<u8>, Cause>
+pub fn translate(alloc: Global, pattern: &FlexPattern) -> Result<Vec<u8>, PatternFault>
     ensures { IfOk result (λ text. IsTranslation (pattern_of pattern.now) text.items) }
 {
-    let text = printed(alloc, pattern)?;
+    let text = print_pattern(alloc, pattern)?;
     if text.len() > MAX_PATTERN_BYTES {
-        return Err(Cause::TooLarge);
+        return Err(PatternFault::TooLarge);
     }
     let Some(read) = read_back(alloc, text.as_slice())? else {
-        return Err(Cause::NotRead);
+        return Err(PatternFault::NotRead);
     };
     if !is_read_as(pattern, &read) {
-        return Err(Cause::NotRead);
+        return Err(PatternFault::NotRead);
     }
     Ok(text)
 }
 
 /// Translates the tree to a text that lx reads as a substitute with the same texts. Fails like [`translate`].
-pub fn translate_substitute(alloc: Global, tree: &Tree) -> Result<Vec<u8>, Cause>
+pub fn translate_substitute(alloc: Global, tree: &Tree) -> Result<Vec<u8>, PatternFault>
     ensures { IfOk result (λ text. IsSubstituteOf (tree_of tree.now) text.items) }
 {
     let text = printed_tree(alloc, tree)?;
     if text.len() > MAX_PATTERN_BYTES {
-        return Err(Cause::TooLarge);
+        return Err(PatternFault::TooLarge);
     }
     let Some(read) = read_back_substitute(alloc, text.as_slice())? else {
-        return Err(Cause::NotRead);
+        return Err(PatternFault::NotRead);
     };
     if !has_same_texts(tree, &read) {
-        return Err(Cause::NotRead);
+        return Err(PatternFault::NotRead);
     }
     Ok(text)
 }

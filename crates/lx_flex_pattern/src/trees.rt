@@ -4,7 +4,7 @@ use crate::classes::Class;
 
 /// A member of brackets.
 #[derive(Debug, Clone, Copy, PartialEq, Eq)]
-pub enum Member {
+pub enum SetMember {
     /// The bytes from the first one to the second.
     Range(u8, u8),
     /// The bytes of a class, `[:alpha:]`.
@@ -25,7 +25,7 @@ pub enum Tree {
         /// True if case is ignored, as in `(?i:`.
         fold: bool,
         /// The members.
-        members: Vec<Member>,
+        members: Vec<SetMember>,
     },
     /// The first tree, then the second.
     Then(Box<Tree>, Box<Tree>),
@@ -46,7 +46,7 @@ pub enum Tree {
 
 /// A pattern with its anchors.
 #[derive(Debug, Drop)]
-pub struct Pattern {
+pub struct FlexPattern {
     /// True if a match has to begin at the start of a line, `^`.
     pub line_begin: bool,
     /// True if a newline has to follow, `$`.

@@ -1,13 +1,13 @@
 //! Compares sets, trees and patterns: other spellings of one reading, a difference in each part, and deep trees that lean either way.
 
-use crate::texts::{formatted, holds, put, put_times};
+use crate::texts::{holds, put, put_times, unwrap_text};
 use lx_ere::{ByteSet, Expr, Pattern, read_pattern, read_substitute};
 use std::alloc::AllocError;
 use std::process::Abort;
 
 /// The text of a deep tree: a head, a repeated front, a middle, and an equally repeated back. Has a second head and a second middle, which are
 /// deepest in the tree.
-struct Shape {
+struct DeepText {
     heads: (&'static str, &'static str),
     front: &'static str,
     times: usize,
@@ -16,36 +16,36 @@ struct Shape {
 }
 
 /// Trees of texts of 1,023 bytes: `Or`, `Then` and `Times` leaning to the left, `Or` and `Then` leaning to the right.
-const SHAPES: &[Shape] = &[
-    Shape {
+const SHAPES: &[DeepText] = &[
+    DeepText {
         heads: ("a", "b"),
         front: "|a",
         times: 511,
         middles: ("", ""),
         back: "",
     },
-    Shape {
+    DeepText {
         heads: ("a", "b"),
         front: "a",
         times: 1022,
         middles: ("", ""),
         back: "",
     },
-    Shape {
+    DeepText {
         heads: ("a", "b"),
         front: "*",
         times: 1022,
         middles: ("", ""),
         back: "",
     },
-    Shape {
+    DeepText {
         heads: ("", ""),
         front: "a|(",
         times: 255,
         middles: ("abc", "abd"),
         back: ")",
     },
-    Shape {
+    DeepText {
         heads: ("", ""),
         front: "a(",
         times: 340,
@@ -55,7 +55,7 @@ const SHAPES: &[Shape] = &[
 ];
 
 /// Returns the text of a shape with this head and this middle.
-fn text_of<R: Abort + AllocGlobal>(rt: &R, shape: &Shape, head: &str, middle: &str) -> String {
+fn text_of<R: Abort + AllocGlobal>(rt: &R, shape: &DeepText, head: &str, middle: &str) -> String {
     let mut text = String::new(rt.alloc());
     put(rt, &mut text, head);
     put_times(rt, &mut text, shape.front, shape.times);
@@ -158,7 +158,7 @@ fn compare_with_both<R: Abort + AllocGlobal>(rt: &R, text: &str, other: &str) {
 }
 
 /// Compares the two texts of a shape.
-fn compare_shape<R: Abort + AllocGlobal>(rt: &R, shape: &Shape) {
+fn compare_shape<R: Abort + AllocGlobal>(rt: &R, shape: &DeepText) {
     let text = text_of(rt, shape, shape.heads.0, shape.middles.0);
     let other = text_of(rt, shape, shape.heads.1, shape.middles.1);
     compare_with_both(rt, text.as_str(), other.as_str());
@@ -196,7 +196,7 @@ fn trees_of_substitutes_are_compared(rt: HostRuntime) {
 
 /// Reads the set of a text, if it is one.
 fn set_of<R: Abort + AllocGlobal>(rt: &R, text: Result<String, AllocError>) -> Option<ByteSet> {
-    let text = formatted(rt, text);
+    let text = unwrap_text(rt, text);
     match tree_of(rt, text.as_str()) {
         Expr::Set(set) => Some(set),
         _other => None,

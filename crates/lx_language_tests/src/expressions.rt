@@ -1,6 +1,6 @@
 //! Tests spellings against readings that were derived by hand from the grammar of `lex`, failed allocations, and deep nesting.
 
-use crate::texts::{formatted, holds, put, put_name, put_number, put_times};
+use crate::texts::{holds, put, put_name, put_number, put_times, unwrap_text};
 use lx_ere::{ByteSet, EreFault, Expr, Pattern, pattern_end, read_pattern, read_substitute};
 use std::process::Abort;
 
@@ -92,13 +92,13 @@ pub(crate) fn show_pattern(rt: &impl Abort, out: &mut String, pattern: &Pattern)
 /// Returns the reading of a text, or the fault's code.
 fn reading<R: Abort + AllocGlobal>(rt: &R, text: &[u8]) -> String {
     match read_pattern(rt.alloc(), text) {
-        Ok(pattern) => shown(rt, &pattern),
+        Ok(pattern) => to_text(rt, &pattern),
         Err(fault) => code(rt, fault),
     }
 }
 
 /// Returns a pattern as a text.
-fn shown<R: Abort + AllocGlobal>(rt: &R, pattern: &Pattern) -> String {
+fn to_text<R: Abort + AllocGlobal>(rt: &R, pattern: &Pattern) -> String {
     let mut out = String::new(rt.alloc());
     show_pattern(rt, &mut out, pattern);
     out
@@ -106,7 +106,7 @@ fn shown<R: Abort + AllocGlobal>(rt: &R, pattern: &Pattern) -> String {
 
 /// Returns a fault's code.
 fn code<R: Abort + AllocGlobal>(rt: &R, fault: EreFault) -> String {
-    formatted(rt, format!(in rt.alloc(); "{fault}"))
+    unwrap_text(rt, format!(in rt.alloc(); "{fault}"))
 }
 
 /// Asserts that a text with this name was read as expected.
@@ -562,7 +562,7 @@ fn substitutes_have_no_anchors(rt: HostRuntime) {
 }
 
 /// Returns a text with a front, a middle and a back. The front and the back are repeated.
-fn nested<R: Abort + AllocGlobal>(
+fn nest<R: Abort + AllocGlobal>(
     rt: &R,
     front: &str,
     times: usize,
@@ -612,7 +612,7 @@ fn expect_read<R: Abort + AllocGlobal>(rt: &R, text: &[u8], reads: bool, front: 
 /// Asserts that a deep text is readable, or that it isn't.
 fn expect_deep<R: Abort + AllocGlobal>(rt: &R, deep: &Deep) {
     let (front, times, middle, back, reads) = *deep;
-    let text = nested(rt, front, times, middle, back);
+    let text = nest(rt, front, times, middle, back);
     expect_read(rt, text.as_bytes(), reads, front);
 }
 

@@ -1,7 +1,7 @@
 //! Tests worked specifications: their contents, or their faults.
 
 use crate::expressions::{show, show_pattern};
-use crate::texts::{formatted, holds, put, put_name, put_number};
+use crate::texts::{holds, put, put_name, put_number, unwrap_text};
 use lx_spec::{Code, Definition, Rule, Spec, SpecFault, Step, read_spec};
 use std::fmt::Write;
 use std::process::Abort;
@@ -58,7 +58,7 @@ fn show_lines(rt: &impl Abort, out: &mut String, spec: &Spec) {
 }
 
 /// Returns the contents of a specification.
-fn shown<R: Abort + AllocGlobal>(rt: &R, spec: &Spec) -> String {
+fn to_text<R: Abort + AllocGlobal>(rt: &R, spec: &Spec) -> String {
     let mut out = String::new(rt.alloc());
     show_names(rt, &mut out, spec);
     show_lines(rt, &mut out, spec);
@@ -68,14 +68,14 @@ fn shown<R: Abort + AllocGlobal>(rt: &R, spec: &Spec) -> String {
 /// Returns the contents of a text, or its fault.
 fn saying<R: Abort + AllocGlobal>(rt: &R, text: &[u8]) -> String {
     match read_spec(rt.alloc(), text) {
-        Ok(spec) => shown(rt, &spec),
+        Ok(spec) => to_text(rt, &spec),
         Err(fault) => fault_of(rt, &fault),
     }
 }
 
 /// Returns a fault as it is printed.
 fn fault_of<R: Abort + AllocGlobal>(rt: &R, fault: &SpecFault) -> String {
-    formatted(rt, format!(in rt.alloc(); "{fault}"))
+    unwrap_text(rt, format!(in rt.alloc(); "{fault}"))
 }
 
 /// Asserts the contents of a text.

@@ -1,15 +1,15 @@
 //! Changes the texts of three rules in single places, and tests if the result is still a text of tables.
 
 use crate::table_texts::expect_read;
-use crate::texts::formatted;
+use crate::texts::unwrap_text;
 use lx_fixtures::THREE_RULES_TEXTS;
 use std::process::Abort;
 
 /// The old part of a text, the new part, and true if the result is a text of tables too.
-type Change = (&'static str, &'static str, bool);
+type TextChange = (&'static str, &'static str, bool);
 
 /// Changes of the conditions, of the kinds and of counts.
-const NAMES: &[Change] = &[
+const NAMES: &[TextChange] = &[
     ("lx-tables", "lx-Tables", false),
     ("lx-tables ", "lx-tables  ", false),
     ("conditions 1", "conditions 2", false),
@@ -74,7 +74,7 @@ const NAMES: &[Change] = &[
 ];
 
 /// Changes of the rules.
-const RULES: &[Change] = &[
+const RULES: &[TextChange] = &[
     ("rules 3\n", "rules 2\n", false),
     ("rules 3\n", "rules 4\n", false),
     ("rules 3\n", "rules 3\nrule 0\n", false),
@@ -115,7 +115,7 @@ const RULES: &[Change] = &[
 ];
 
 /// Changes of version 1: its ranges.
-const RANGES: &[Change] = &[
+const RANGES: &[TextChange] = &[
     ("lx-tables 1", "lx-tables 2", false),
     ("lx-tables 1", "lx-tables 3", false),
     ("lx-tables 1", "lx-tables 0", false),
@@ -149,7 +149,7 @@ const RANGES: &[Change] = &[
 ];
 
 /// Changes of version 2: its classes and entries.
-const CLASSES: &[Change] = &[
+const CLASSES: &[TextChange] = &[
     ("lx-tables 2", "lx-tables 1", false),
     ("classes 4", "classes 3", false),
     ("classes 4", "classes 5", false),
@@ -206,27 +206,27 @@ const CLASSES: &[Change] = &[
 ];
 
 /// Returns the text with the first occurrence of a part replaced.
-fn changed<R: Abort + AllocGlobal>(rt: &R, text: &str, old: &str, new: &str) -> String {
+fn replace_first<R: Abort + AllocGlobal>(rt: &R, text: &str, old: &str, new: &str) -> String {
     let (front, back) = text.split_once(old).expect(rt, old);
-    formatted(rt, format!(in rt.alloc(); "{front}{new}{back}"))
+    unwrap_text(rt, format!(in rt.alloc(); "{front}{new}{back}"))
 }
 
 /// Asserts that a changed text is that of tables, or that it isn't.
-fn reads_change<R: Abort + AllocGlobal>(rt: &R, text: &str, change: &Change) {
+fn reads_change<R: Abort + AllocGlobal>(rt: &R, text: &str, change: &TextChange) {
     let (old, new, accepted) = *change;
-    let text = changed(rt, text, old, new);
+    let text = replace_first(rt, text, old, new);
     expect_read(rt, text.as_str(), accepted);
 }
 
 /// Asserts the same for each of the changes.
-fn reads_changes<R: Abort + AllocGlobal>(rt: &R, text: &str, changes: &[Change]) {
+fn reads_changes<R: Abort + AllocGlobal>(rt: &R, text: &str, changes: &[TextChange]) {
     for change in changes {
         reads_change(rt, text, change);
     }
 }
 
 /// Asserts the same for the changes of both versions, and for these.
-fn reads_all<R: Abort + AllocGlobal>(rt: &R, text: &str, own: &[Change]) {
+fn reads_all<R: Abort + AllocGlobal>(rt: &R, text: &str, own: &[TextChange]) {
     reads_changes(rt, text, NAMES);
     reads_changes(rt, text, RULES);
     reads_changes(rt, text, own);

@@ -30,7 +30,7 @@ fn put_bytes(rt: &impl Abort, out: &mut Vec<u8>, bytes: &[u8]) {
 }
 
 /// Joins three parts.
-fn joined<R: Abort + AllocGlobal>(rt: &R, front: &[u8], middle: &[u8], back: &[u8]) -> Vec<u8> {
+fn join_parts<R: Abort + AllocGlobal>(rt: &R, front: &[u8], middle: &[u8], back: &[u8]) -> Vec<u8> {
     let mut all = Vec::new(rt.alloc());
     put_bytes(rt, &mut all, front);
     put_bytes(rt, &mut all, middle);
@@ -47,7 +47,7 @@ fn reads_as_itself<R: Abort + AllocGlobal>(rt: &R, text: &[u8]) {
 
 /// Asserts that a text with one byte replaced isn't that of tables, or is printed unchanged.
 fn reads_nothing_else<R: Abort + AllocGlobal>(rt: &R, front: &[u8], middle: &[u8], back: &[u8]) {
-    let damaged = joined(rt, front, middle, back);
+    let damaged = join_parts(rt, front, middle, back);
     reads_as_itself(rt, &damaged);
 }
 

@@ -1,7 +1,7 @@
 //! Tests texts of tables at the limits and just above them, and counts that promise more than the text has.
 
 use crate::table_texts::expect_read;
-use crate::texts::{formatted, put, put_char, put_number};
+use crate::texts::{put, put_char, put_number, unwrap_text};
 use std::process::Abort;
 
 /// Appends a line in which each `#` is replaced by a number.
@@ -27,10 +27,15 @@ fn put_lines(rt: &impl Abort, text: &mut String, head: &str, count: u32, line: &
 type Lines = [&'static str; 4];
 
 /// Numbers of conditions, kinds, rules and states.
-type Counts = [u32; 4];
+type LimitCounts = [u32; 4];
 
 /// Makes a text of tables. It has version 1 if no lines of classes are given, otherwise version 2.
-fn made<R: Abort + AllocGlobal>(rt: &R, classes: &str, counts: Counts, lines: Lines) -> String {
+fn made<R: Abort + AllocGlobal>(
+    rt: &R,
+    classes: &str,
+    counts: LimitCounts,
+    lines: Lines,
+) -> String {
     let [conditions, kinds, rules, states] = counts;
     let [start, kind, rule, state] = lines;
     let version = if classes.is_empty() { 1 } else { 2 };
@@ -49,7 +54,7 @@ fn made<R: Abort + AllocGlobal>(rt: &R, classes: &str, counts: Counts, lines: Li
 const ONE_CLASS: &str = "classes 1\nclass 0-255:0\n";
 
 /// Counts and lines that both versions share, and true if there are such tables.
-const BOTH: &[(Counts, Lines, bool)] = &[
+const BOTH: &[(LimitCounts, Lines, bool)] = &[
     (
         [64, 0, 1, 1],
         ["start 0 0\n", "", "rule 0 b63\n", "state 0\n"],
@@ -127,7 +132,7 @@ const STATES: &[(&'static str, &'static str, bool)] = &[
 fn expect_made<R: Abort + AllocGlobal>(
     rt: &R,
     classes: &str,
-    counts: Counts,
+    counts: LimitCounts,
     lines: Lines,
     accepted: bool,
 ) {
@@ -217,7 +222,7 @@ const PROMISES: &[&str] = &[
 
 /// Asserts twenty times that a text with such a count is rejected.
 fn refuses_promise<R: Abort + AllocGlobal>(rt: &R, head: &str, promise: &str) {
-    let text = formatted(rt, format!(in rt.alloc(); "{head}{promise}"));
+    let text = unwrap_text(rt, format!(in rt.alloc(); "{head}{promise}"));
     for _time in 0..20 {
         expect_read(rt, text.as_str(), false);
     }

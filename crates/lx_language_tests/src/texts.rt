@@ -39,6 +39,6 @@ pub(crate) fn put_char(rt: &impl Abort, out: &mut String, letter: char) {
 }
 
 /// Returns the formatted text.
-pub(crate) fn formatted(rt: &impl Abort, text: Result<String, AllocError>) -> String {
+pub(crate) fn unwrap_text(rt: &impl Abort, text: Result<String, AllocError>) -> String {
     text.expect(rt, "memory")
 }

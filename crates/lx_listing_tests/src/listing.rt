@@ -4,7 +4,7 @@ ghost use Rattle.std.specs.Prelude.{◌<◌, ◌≤◌};
 ghost use Rattle.lx_piece.specs.Plans.{IsPlan, max_items};
 
 use crate::asserts::{holds, same, same_bytes};
-use crate::plans::{listing_of, made, mixed, put, put_times};
+use crate::plans::{listing_of, made, mixed_files, put, put_times};
 use crate::writers::{Failing, failing_writer};
 use lx_fixtures::{
     MIXED_FILES, MIXED_LISTING, MIXED_RULES, NO_RULES, inputs, last_file_first, tables_of,
@@ -23,7 +23,7 @@ fn lists_mixed<R: Abort + AllocGlobal>(rt: &R, per_piece: u32)
     requires some_items { 0 < per_piece }
     requires few_items { per_piece ≤ max_items }
 {
-    let plan = mixed(rt, per_piece);
+    let plan = mixed_files(rt, per_piece);
     let out = listing_of(rt, &plan);
     same_bytes(rt, out.as_slice(), MIXED_LISTING.as_bytes(), &per_piece);
 }
@@ -99,7 +99,7 @@ fn prints<R: Abort + AllocGlobal>(rt: &R, plan: &Plan, out: &mut Failing) {
 
 #[test]
 fn writes_each_line_by_itself_or_many_at_once(rt: HostRuntime) {
-    let plan = mixed(&rt, 256);
+    let plan = mixed_files(&rt, 256);
     writes_in(&rt, &plan, MIXED_LISTING.as_bytes(), 14, 1);
     let mut out = failing_writer(rt.alloc(), 4_096, 0, false);
     prints(&rt, &plan, &mut out);
@@ -180,7 +180,7 @@ fn gathers_lines_until_they_are_worth_a_write(rt: HostRuntime) {
 
 #[test]
 fn writes_the_rest_of_what_was_taken_in_part(rt: HostRuntime) {
-    let plan = mixed(&rt, 1);
+    let plan = mixed_files(&rt, 1);
     let mut out = failing_writer(rt.alloc(), 1, 0, true);
     prints(&rt, &plan, &mut out);
     same_bytes(&rt, out.held.as_slice(), MIXED_LISTING.as_bytes(), &1);
@@ -234,7 +234,7 @@ fn holds_pieces<R: Abort + AllocGlobal>(rt: &R, per_piece: u32)
     requires some_items { 0 < per_piece }
     requires few_items { per_piece ≤ max_items }
 {
-    let plan = mixed(rt, per_piece);
+    let plan = mixed_files(rt, per_piece);
     let mut out = failing_writer(rt.alloc(), 4_096, 0, false);
     same(rt, &relay_last_file_first(rt, &plan, &mut out), &0);
     wrote(rt, &out, MIXED_LISTING.as_bytes(), 14);
@@ -260,7 +260,7 @@ fn take_twice<R: Abort + AllocGlobal, W: Write + Drop>(rt: &R, plan: &Plan, out:
 
 #[test]
 fn answers_device_once_it_has_failed(rt: HostRuntime) {
-    let plan = mixed(&rt, 1);
+    let plan = mixed_files(&rt, 1);
     let mut out = failing_writer(rt.alloc(), 4_096, 1, false);
     take_twice(&rt, &plan, &mut out);
     wrote(&rt, &out, b"", 1);

@@ -25,7 +25,7 @@ pub(crate) fn made<R: Abort + AllocGlobal>(
 }
 
 /// Makes the plan of the mixed files by the mixed rules.
-pub(crate) fn mixed<R: Abort + AllocGlobal>(rt: &R, per_piece: u32) -> Plan
+pub(crate) fn mixed_files<R: Abort + AllocGlobal>(rt: &R, per_piece: u32) -> Plan
     requires some_items { 0 < per_piece }
     requires few_items { per_piece ≤ max_items }
     ensures { IsPlan result }

@@ -8,7 +8,7 @@ use std::process::Abort;
 
 /// The result of one read.
 #[derive(Clone, Copy)]
-enum Turn {
+enum ReadResult {
     Gives(&'static [u8]),
     Fails(ErrorKind),
 }
@@ -16,7 +16,7 @@ enum Turn {
 /// A reader with these results, one for each read, and then the end.
 #[derive(Drop)]
 struct Turns {
-    rest: &'static [Turn],
+    rest: &'static [ReadResult],
 }
 
 impl Read for Turns {
@@ -26,27 +26,32 @@ impl Read for Turns {
         };
         self.rest = rest;
         match *turn {
-            Turn::Gives(bytes) => {
+            ReadResult::Gives(bytes) => {
                 let len = bytes.len().min(buf.len());
                 buf[..len].copy_from_slice(&bytes[..len]);
                 Ok(len)
             }
-            Turn::Fails(kind) => Err(io::Error::from(kind)),
+            ReadResult::Fails(kind) => Err(io::Error::from(kind)),
         }
     }
 }
 
 /// The results of a reader, the bytes that are read, true if they are cut, and the number of results that are left.
-type Row = (&'static [Turn], &'static [u8], bool, usize);
+type ReaderRow = (&'static [ReadResult], &'static [u8], bool, usize);
 
-const ROWS: &[Row] = &[
+const ROWS: &[ReaderRow] = &[
     (&[], b"", false, 0),
-    (&[Turn::Gives(b"ab"), Turn::Gives(b"c")], b"abc", false, 0),
+    (
+        &[ReadResult::Gives(b"ab"), ReadResult::Gives(b"c")],
+        b"abc",
+        false,
+        0,
+    ),
     (
         &[
-            Turn::Gives(b"ab"),
-            Turn::Fails(ErrorKind::Interrupted),
-            Turn::Gives(b"c"),
+            ReadResult::Gives(b"ab"),
+            ReadResult::Fails(ErrorKind::Interrupted),
+            ReadResult::Gives(b"c"),
         ],
         b"abc",
         false,
@@ -54,19 +59,19 @@ const ROWS: &[Row] = &[
     ),
     (
         &[
-            Turn::Gives(b"ab"),
-            Turn::Fails(ErrorKind::Other),
-            Turn::Gives(b"c"),
+            ReadResult::Gives(b"ab"),
+            ReadResult::Fails(ErrorKind::Other),
+            ReadResult::Gives(b"c"),
         ],
         b"ab",
         true,
         1,
     ),
-    (&[Turn::Fails(ErrorKind::IsADirectory)], b"", true, 0),
+    (&[ReadResult::Fails(ErrorKind::IsADirectory)], b"", true, 0),
 ];
 
 /// Asserts what is read by a reader.
-fn reads<R: Abort + AllocGlobal>(rt: &R, row: &Row) {
+fn reads<R: Abort + AllocGlobal>(rt: &R, row: &ReaderRow) {
     let (turns, bytes, cut, left) = *row;
     let mut reader = Turns { rest: turns };
     let input = read_to_end(rt.alloc(), &mut reader).expect(rt, "memory");
@@ -83,7 +88,10 @@ fn a_reader_is_read_to_its_end_or_to_its_fault(rt: HostRuntime) {
 }
 
 /// The results of a reader for which an allocation fails.
-const REFUSED: &[Turn] = &[Turn::Gives(b"ab"), Turn::Fails(ErrorKind::OutOfMemory)];
+const REFUSED: &[ReadResult] = &[
+    ReadResult::Gives(b"ab"),
+    ReadResult::Fails(ErrorKind::OutOfMemory),
+];
 
 #[test]
 fn a_reader_for_which_memory_is_refused_gives_no_input(rt: HostRuntime) {

@@ -4,7 +4,7 @@ ghost use Rattle.std.specs.Prelude.{◌<◌, ◌≤◌};
 ghost use Rattle.lx_piece.specs.Plans.{max_items};
 
 use crate::asserts::{same, same_bytes};
-use crate::plans::{listing_of, made, mixed};
+use crate::plans::{listing_of, made, mixed_files};
 use lx_fixtures::{MIXED_LISTING, THREE_RULES};
 use lx_piece::{Plan, Reader};
 use lx_post::{Gate, OpenGate, RunFault, scan_all};
@@ -58,9 +58,9 @@ fn lists<R: Abort + AllocGlobal + Threads + Wait + Sync>(rt: &R, plan: &Plan, wa
 }
 
 /// Files, with a flag for a failed reading, and their listing by the three rules.
-type Row = (&'static [(&'static [u8], bool)], &'static [u8]);
+type ListingRow = (&'static [(&'static [u8], bool)], &'static [u8]);
 
-const ROWS: &[Row] = &[
+const ROWS: &[ListingRow] = &[
     (
         &[(b"a", false), (b"", false), (b"1\n2", false)],
         b"0 T ID 1 0 1 a\n2 T NUM 1 0 1 1\n2 T NUM 2 2 1 2\n",
@@ -82,7 +82,11 @@ const ROWS: &[Row] = &[
 ];
 
 /// Asserts the listing of a row, with `per_piece` items a piece.
-fn lists_row<R: Abort + AllocGlobal + Threads + Wait + Sync>(rt: &R, row: &Row, per_piece: u32)
+fn lists_row<R: Abort + AllocGlobal + Threads + Wait + Sync>(
+    rt: &R,
+    row: &ListingRow,
+    per_piece: u32,
+)
     requires some_items { 0 < per_piece }
     requires few_items { per_piece ≤ max_items }
 {
@@ -97,7 +101,7 @@ fn lists_mixed<R: Abort + AllocGlobal + Threads + Wait + Sync>(rt: &R, per_piece
     requires some_items { 0 < per_piece }
     requires few_items { per_piece ≤ max_items }
 {
-    let plan = mixed(rt, per_piece);
+    let plan = mixed_files(rt, per_piece);
     lists(rt, &plan, MIXED_LISTING.as_bytes());
 }
 

@@ -16,7 +16,7 @@ use std::thread::Threads;
 
 /// The outcome of a run.
 #[derive(Clone, Copy, Debug, PartialEq, Eq)]
-enum Outcome {
+enum RunOutcome {
     /// All was listed.
     Whole,
     /// An allocation failed, and a prefix was listed.
@@ -26,16 +26,16 @@ enum Outcome {
 }
 
 /// Asserts that a run which wrote this listed all, or a prefix for lack of memory.
-fn outcome_of(rt: &impl Abort, ended: Result<(), RunFault>, written: &[u8]) -> Outcome {
+fn outcome_of(rt: &impl Abort, ended: Result<(), RunFault>, written: &[u8]) -> RunOutcome {
     match ended {
         Ok(()) => {
             same(rt, &written, &THREE_FILES_LISTING);
-            Outcome::Whole
+            RunOutcome::Whole
         }
         Err(fault) => {
             same(rt, &fault, &RunFault::Memory);
             same(rt, &THREE_FILES_LISTING.starts_with(written), &true);
-            Outcome::Part
+            RunOutcome::Part
         }
     }
 }
@@ -46,15 +46,15 @@ fn list_three<R: Threads + Wait + Abort + Sync>(
     alloc: Global,
     plan: &Plan,
     workers: u8,
-) -> Outcome
+) -> RunOutcome
     requires some_workers { 0 < workers }
     requires few_workers { workers ≤ 8 }
 {
     let Ok(mut out) = Vec::with_capacity(alloc, THREE_FILES_LISTING.len()) else {
-        return Outcome::Untried;
+        return RunOutcome::Untried;
     };
     let Ok((ended, faults)) = scan_over(rt, alloc, plan, workers, &OpenGate, &mut out) else {
-        return Outcome::Untried;
+        return RunOutcome::Untried;
     };
     same(rt, &faults, &0);
     outcome_of(rt, ended, out.as_slice())
@@ -65,8 +65,12 @@ fn list_again<R: Threads + Wait + Abort + Sync>(rt: &R, alloc: Global, plan: &Pl
     requires some_workers { 0 < workers }
     requires few_workers { workers ≤ 8 }
 {
-    if list_three(rt, alloc, plan, workers) == Outcome::Part {
-        same(rt, &list_three(rt, alloc, plan, workers), &Outcome::Whole);
+    if list_three(rt, alloc, plan, workers) == RunOutcome::Part {
+        same(
+            rt,
+            &list_three(rt, alloc, plan, workers),
+            &RunOutcome::Whole,
+        );
     }
 }
 

@@ -7,7 +7,7 @@ ghost use Rattle.lx_automaton.specs.Leading.{AreAllLedTo};
 ghost use Rattle.lx_automaton.specs.Meaning.{IsAutomatonOf};
 
 use crate::quotient::quotient;
-use crate::split::refined;
+use crate::split::refine;
 use crate::{by_labels, completion_of};
 use lx_automaton::{Automaton, with_byte_classes};
 use std::alloc::{AllocError, Global};
@@ -26,7 +26,7 @@ pub fn merge(alloc: Global, automaton: &Automaton) -> Result<Automaton, AllocErr
 {
     let m = completion_of(alloc, automaton)?;
     let start = by_labels(alloc, &m)?;
-    let p = refined(alloc, &m, start)?;
+    let p = refine(alloc, &m, start)?;
     let draft = quotient(alloc, automaton, &m, &p)?;
     with_byte_classes(alloc, &draft)
 }

@@ -9,7 +9,7 @@ ghost use Rattle.lx_minimize.specs.Partitions.{block, block_count, IsSound, IsSt
 ghost use Rattle.lx_minimize.specs.Quotients.{number_of, AreStates, AreStarts, HaveNoDeadStart, HasDeadStart, AreRowStates, AreLabels, AreTargets};
 
 use crate::{Complete, Partition, step};
-use lx_automaton::{Automaton, Draft};
+use lx_automaton::{Automaton, AutomatonDraft};
 use std::alloc::{AllocError, Global};
 
 /// Returns the state of the quotient for a state of the automaton.
@@ -138,7 +138,7 @@ pub(crate) fn quotient(
     automaton: &Automaton,
     m: &Complete,
     p: &Partition,
-) -> Result<Draft, AllocError>
+) -> Result<AutomatonDraft, AllocError>
     requires completion { IsCompletion automaton.now m.now }
     requires sound { IsSound m.now p.now }
     requires stable { IsStable m.now p.now }
@@ -156,5 +156,5 @@ pub(crate) fn quotient(
     let labels = labels_of(alloc, m, &rows)?;
     let targets = targets_of(alloc, m, p, &rows)?;
     let classes = Vec::from_slice(alloc, automaton.byte_classes())?;
-    Ok(Draft::of(starts, classes, width, labels, targets))
+    Ok(AutomatonDraft::of(starts, classes, width, labels, targets))
 }

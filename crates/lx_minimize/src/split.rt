@@ -171,11 +171,7 @@ fn split_at(
 }
 
 /// Splits blocks until states of one block step to the same blocks.
-pub(crate) fn refined(
-    alloc: Global,
-    m: &Complete,
-    start: Partition,
-) -> Result<Partition, AllocError>
+pub(crate) fn refine(alloc: Global, m: &Complete, start: Partition) -> Result<Partition, AllocError>
     requires complete { IsComplete m.now }
     requires sound { IsSound m.now start }
     ensures sound { IfOk result (λ p. IsSound m.now p) }

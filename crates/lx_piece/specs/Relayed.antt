@@ -1,10 +1,24 @@
 -- The pieces taken of a plan's files.
-use Rattle.std.specs.Prelude.{ℕ, ◌≡◌, ◌≢◌, ◌<◌, ◌≤◌, true, List, [], ◌∷◌, ◌++◌, Contains, length, slice_index}
+use Rattle.std.specs.Prelude.{ℕ, ◌≡◌, ◌≢◌, ◌<◌, ◌≤◌, true, List, [], ◌∷◌, ◌++◌, Contains, Result, Err, OnOk, length, replicate, slice_index}
+use Rattle.lx_piece.specs.declared.delivering.RelayFault.{RelayFault}
+use Rattle.lx_piece.specs.declared.delivering.RelayFault.TheVariants as fault
 use Rattle.lx_piece.specs.declared.piece.Piece.{Piece}
 use Rattle.lx_piece.specs.declared.reply.Reply.{Reply}
 use Rattle.lx_piece.specs.Plans.{Planned, files_of}
-use Rattle.lx_piece.specs.Pieces.{ItemPiece, Making, bare, TakesInOrder, pieces_of, piece_by}
+use Rattle.lx_piece.specs.Pieces.{ItemPiece, Making, bare, TakesInOrder, pieces_of, piece_by, top_number}
 use Rattle.lx_piece.specs.Arrivals.{RunShape, shape_of, AreHonestBy, accepted_of, replies_of, has_piece, IsLeastMissing}
+
+-- a reader of this plan that took nothing, and whose faults can still be counted
+pub record TookNothing (plan of_reader : Planned) (counts : List ℕ) (faults : ℕ) : Type 0 where
+  pub same : of_reader ≡ plan
+  pub nothing : counts ≡ replicate (files_of plan) 0
+  pub countable : faults < top_number
+
+-- the meaning of a relay's answer for the reader's faults before and after
+pub record TellsRelayFaults {T : Type 0} (answer : Result T RelayFault) (before after : ℕ) : Type 0 where
+  pub failed : answer ≡ Err fault.Reader → before < after
+  pub memory : answer ≡ Err fault.Memory → after ≡ before
+  pub none : OnOk answer (after ≡ before)
 
 -- the pieces taken of each file are some of its first ones, and so in order and none twice
 pub record TakesAllInOrder (plan : Planned) (counts : List ℕ) : Type 0 where

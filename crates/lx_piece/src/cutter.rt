@@ -28,7 +28,7 @@ fn push_some(item: Option<Item>, items: &mut ItemList) -> Result<(), AllocError>
 }
 
 // Removes the item after the first `most`, if there is one.
-fn take_behind(items: &mut ItemList, most: usize) -> Option<Item>
+fn take_further(items: &mut ItemList, most: usize) -> Option<Item>
     requires { length items.old ≤ most + 1 }
     ensures items { items.new ≡ take most items.old }
     ensures behind { listed result ≡ drop most items.old }
@@ -66,7 +66,7 @@ fn take_items(
     let most = most as usize;
     push_some(first, items)?;
     cursor.next_items(tables, text, memory, most + 1, items)?;
-    Ok(take_behind(items, most))
+    Ok(take_further(items, most))
 }
 
 // Returns the mark of a piece. The mark of the last piece is Cut if its file's reading failed, and otherwise Whole.

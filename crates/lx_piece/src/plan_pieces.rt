@@ -1,12 +1,12 @@
 //! Cuts the pieces of a plan on one thread.
 
-ghost use Rattle.std.specs.Prelude.{◌≡◌, ◌+◌, ◌<◌, [], ◌∷◌, ◌++◌, Err, IfOk, OnOk, OnErr, MatchOption, false, replicate};
+ghost use Rattle.std.specs.Prelude.{◌≡◌, ◌+◌, ◌<◌, [], ◌∷◌, ◌++◌, Err, IfOk, OnOk, OnErr, MatchOption, false};
 ghost use Rattle.lx_piece.specs.declared.delivering.RelayFault.{RelayFault};
 ghost use Rattle.lx_piece.specs.Cutting.{IsCutterOf};
-ghost use Rattle.lx_piece.specs.Pieces.{IsPieceBy, top_number};
+ghost use Rattle.lx_piece.specs.Pieces.{IsPieceBy};
 ghost use Rattle.lx_piece.specs.PlanPieces.{pieces_before, pieces_below};
 ghost use Rattle.lx_piece.specs.Plans.{IsPlan, files_of};
-ghost use Rattle.lx_piece.specs.Relayed.{AreAllTaken, TakesAllInOrder};
+ghost use Rattle.lx_piece.specs.Relayed.{AreAllTaken, TakesAllInOrder, TookNothing};
 
 use crate::arrivals_of::ArrivalsOf;
 use crate::relaying::relay_of;
@@ -137,9 +137,8 @@ pub fn relay_plan<M: Maker + Drop, R: ReaderOf<M>>(
     maker: M,
     reader: &mut R,
 ) -> Result<(), RelayFault>
-    requires reader_plan { R.plan reader.old ≡ plan.now }
-    requires nothing_taken { R.counts reader.old ≡ replicate (files_of plan.now) 0 }
-    requires countable { R.fault_count reader.old < top_number }
+    requires reader { TookNothing plan.now (R.plan reader.old) (R.counts reader.old)
+        (R.fault_count reader.old) }
     ensures ok { OnOk result (AreAllTaken plan.now (R.counts reader.new)) }
     ensures taken { TakesAllInOrder plan.now (R.counts reader.new) }
     ensures follows { R.follows reader.old reader.new }

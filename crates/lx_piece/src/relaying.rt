@@ -1,9 +1,7 @@
 //! Delivers in order the pieces that arrive in any order.
 
-ghost use Rattle.std.specs.Prelude.{◌≡◌, ◌<◌, replicate, OnOk, OnErr, IfOk, Err};
-ghost use Rattle.lx_piece.specs.Plans.{files_of};
-ghost use Rattle.lx_piece.specs.Pieces.{top_number};
-ghost use Rattle.lx_piece.specs.Relayed.{Relayed, RelayedBy, RelayedInPart, RelayedInPartBy};
+ghost use Rattle.std.specs.Prelude.{◌≡◌, OnOk, OnErr, IfOk};
+ghost use Rattle.lx_piece.specs.Relayed.{Relayed, RelayedBy, RelayedInPart, RelayedInPartBy, TellsRelayFaults, TookNothing};
 
 use crate::arrivals::Arrivals;
 use crate::arrivals_of::ArrivalsOf;
@@ -21,9 +19,8 @@ pub fn relay<A: Arrivals, R: Reader>(
     reader: &mut R,
 ) -> Result<Vec<Reply>, RelayFault>
     requires arrivals_plan { A.plan arrivals.old ≡ plan.now }
-    requires reader_plan { R.plan reader.old ≡ plan.now }
-    requires nothing_taken { R.counts reader.old ≡ replicate (files_of plan.now) 0 }
-    requires countable { R.fault_count reader.old < top_number }
+    requires reader { TookNothing plan.now (R.plan reader.old) (R.counts reader.old)
+        (R.fault_count reader.old) }
 
     // All arrivals came. The replies are those to the list of arrivals. Of each file the reader took the pieces below the least number that wasn't
     // accepted.
@@ -39,11 +36,8 @@ pub fn relay<A: Arrivals, R: Reader>(
     ensures follows { R.follows reader.old reader.new }
     ensures plan { R.plan reader.new ≡ R.plan reader.old }
     ensures arrivals_plan { A.plan arrivals.new ≡ A.plan arrivals.old }
-    ensures reader_fault { result ≡ Err RelayFault.Reader
-        → R.fault_count reader.old < R.fault_count reader.new }
-    ensures memory { result ≡ Err RelayFault.Memory
-        → R.fault_count reader.new ≡ R.fault_count reader.old }
-    ensures no_fault { OnOk result (R.fault_count reader.new ≡ R.fault_count reader.old) }
+    ensures faults { TellsRelayFaults result (R.fault_count reader.old)
+        (R.fault_count reader.new) }
 {
     relay_of::<KeepItems, A, R>(alloc, plan, arrivals, reader)
 }
@@ -56,9 +50,8 @@ pub fn relay_of<M: Maker, A: ArrivalsOf<M>, R: ReaderOf<M>>(
     reader: &mut R,
 ) -> Result<Vec<Reply>, RelayFault>
     requires arrivals_plan { A.plan arrivals.old ≡ plan.now }
-    requires reader_plan { R.plan reader.old ≡ plan.now }
-    requires nothing_taken { R.counts reader.old ≡ replicate (files_of plan.now) 0 }
-    requires countable { R.fault_count reader.old < top_number }
+    requires reader { TookNothing plan.now (R.plan reader.old) (R.counts reader.old)
+        (R.fault_count reader.old) }
 
     // All arrivals came. The replies are those to the list of arrivals. Of each file the reader took the pieces below the least number that wasn't
     // accepted.
@@ -74,11 +67,8 @@ pub fn relay_of<M: Maker, A: ArrivalsOf<M>, R: ReaderOf<M>>(
     ensures follows { R.follows reader.old reader.new }
     ensures plan { R.plan reader.new ≡ R.plan reader.old }
     ensures arrivals_plan { A.plan arrivals.new ≡ A.plan arrivals.old }
-    ensures reader_fault { result ≡ Err RelayFault.Reader
-        → R.fault_count reader.old < R.fault_count reader.new }
-    ensures memory { result ≡ Err RelayFault.Memory
-        → R.fault_count reader.new ≡ R.fault_count reader.old }
-    ensures no_fault { OnOk result (R.fault_count reader.new ≡ R.fault_count reader.old) }
+    ensures faults { TellsRelayFaults result (R.fault_count reader.old)
+        (R.fault_count reader.new) }
 {
     let mut collector = Collector::of(alloc, plan.run(), plan.files())?;
     let mut replies = Vec::new(alloc);

@@ -74,7 +74,7 @@ fn may_end(rule: &Rule, text: &[u8], n: usize) -> bool
 }
 
 /// Returns the greatest number of bytes at the start of the text that the rule fits.
-pub(crate) fn longest(
+pub(crate) fn longest_fit(
     alloc: Global,
     spec: &Spec,
     rule: &Rule,
@@ -120,7 +120,7 @@ pub(crate) fn choose(
     let mut best = None;
     let mut best_reach = 0;
     for (i, rule) in spec.rules.iter().enumerate() {
-        if let Some(n) = longest(alloc, spec, rule, condition, begin, text)? {
+        if let Some(n) = longest_fit(alloc, spec, rule, condition, begin, text)? {
             let reach = reach_of(rule, n);
             if reach > best_reach {
                 best = Some((i as u16, n));

@@ -3,7 +3,7 @@
 ghost use Rattle.std.specs.Prelude.{◌<◌, ◌≤◌};
 ghost use Rattle.lx_piece.specs.Plans.{IsPlan, max_items};
 
-use crate::fault::Fault;
+use crate::fault::PlainFault;
 use lx_auto::{build, merge};
 use lx_fixtures::inputs;
 use lx_piece::{Cutter, Plan};
@@ -13,11 +13,11 @@ use lx_tables::Tables;
 use std::alloc::{AllocError, Global};
 
 /// Returns a fault with the name of the difference if `is_same` is false.
-fn holds(is_same: bool, what: &'static str) -> Result<(), Fault> {
+fn holds(is_same: bool, what: &'static str) -> Result<(), PlainFault> {
     if is_same {
         Ok(())
     } else {
-        Err(Fault::Differs(what))
+        Err(PlainFault::Differs(what))
     }
 }
 
@@ -40,7 +40,7 @@ fn compare_pieces(
     text: &[u8],
     items: &[Item],
     per_piece: u32,
-) -> Result<(), Fault>
+) -> Result<(), PlainFault>
     requires some_items { 0 < per_piece }
     requires few_items { per_piece ≤ max_items }
 {
@@ -57,7 +57,7 @@ fn compare_printed_pieces(
     text: &[u8],
     items: &[Item],
     per_piece: u32,
-) -> Result<(), Fault>
+) -> Result<(), PlainFault>
     requires some_items { 0 < per_piece }
     requires few_items { per_piece ≤ max_items }
 {
@@ -71,7 +71,7 @@ fn compare_printed(
     printed: &[u8],
     text: &[u8],
     items: &[Item],
-) -> Result<(), Fault> {
+) -> Result<(), PlainFault> {
     compare_printed_pieces(alloc, printed, text, items, 1)?;
     compare_printed_pieces(alloc, printed, text, items, 2)?;
     compare_printed_pieces(alloc, printed, text, items, 256)?;
@@ -80,14 +80,19 @@ fn compare_printed(
 }
 
 /// Compares both texts of the tables that are read from a printed text with the printed ones.
-fn compare_texts(alloc: Global, printed: &[u8], first: &[u8], second: &[u8]) -> Result<(), Fault> {
+fn compare_texts(
+    alloc: Global,
+    printed: &[u8],
+    first: &[u8],
+    second: &[u8],
+) -> Result<(), PlainFault> {
     let tables = Tables::read(alloc, printed)?;
     compare_first(alloc, &tables, first)?;
     compare_second(alloc, &tables, second)
 }
 
 /// Compares the first text of tables with the printed one.
-fn compare_first(alloc: Global, tables: &Tables, printed: &[u8]) -> Result<(), Fault> {
+fn compare_first(alloc: Global, tables: &Tables, printed: &[u8]) -> Result<(), PlainFault> {
     let again = first_text_of(alloc, tables)?;
     holds(
         again.as_slice() == printed,
@@ -96,7 +101,7 @@ fn compare_first(alloc: Global, tables: &Tables, printed: &[u8]) -> Result<(), F
 }
 
 /// Compares the second text of tables with the printed one.
-fn compare_second(alloc: Global, tables: &Tables, printed: &[u8]) -> Result<(), Fault> {
+fn compare_second(alloc: Global, tables: &Tables, printed: &[u8]) -> Result<(), PlainFault> {
     let again = second_text_of(alloc, tables)?;
     holds(
         again.as_slice() == printed,
@@ -111,13 +116,18 @@ fn compare_scanned(
     text: &[u8],
     items: &[Item],
     what: &'static str,
-) -> Result<(), Fault> {
+) -> Result<(), PlainFault> {
     let found = scan(alloc, tables, text)?;
     holds(found.as_slice() == items, what)
 }
 
 /// Compares the items by tables of an automaton that isn't merged.
-fn compare_unmerged(alloc: Global, spec: &Spec, text: &[u8], items: &[Item]) -> Result<(), Fault> {
+fn compare_unmerged(
+    alloc: Global,
+    spec: &Spec,
+    text: &[u8],
+    items: &[Item],
+) -> Result<(), PlainFault> {
     let automaton = build(alloc, spec)?;
     let tables = Tables::of(alloc, spec, &automaton)?;
     let what = "the items by tables that aren't merged";
@@ -125,20 +135,20 @@ fn compare_unmerged(alloc: Global, spec: &Spec, text: &[u8], items: &[Item]) -> 
 }
 
 /// Makes the merged tables of a specification.
-fn merged_tables(alloc: Global, spec: &Spec) -> Result<Tables, Fault> {
+fn merged_tables(alloc: Global, spec: &Spec) -> Result<Tables, PlainFault> {
     let automaton = build(alloc, spec)?;
     Ok(Tables::of(alloc, spec, &merge(alloc, &automaton)?)?)
 }
 
 /// Prints the first text of tables.
-fn first_text_of(alloc: Global, tables: &Tables) -> Result<Vec<u8>, Fault> {
+fn first_text_of(alloc: Global, tables: &Tables) -> Result<Vec<u8>, PlainFault> {
     let mut text = Vec::new(alloc);
     tables.print_first(&mut text)?;
     Ok(text)
 }
 
 /// Prints the second text of tables.
-fn second_text_of(alloc: Global, tables: &Tables) -> Result<Vec<u8>, Fault> {
+fn second_text_of(alloc: Global, tables: &Tables) -> Result<Vec<u8>, PlainFault> {
     let mut text = Vec::new(alloc);
     tables.print(&mut text)?;
     Ok(text)
@@ -151,7 +161,7 @@ fn compare_read(
     texts: (&[u8], &[u8]),
     text: &[u8],
     items: &[Item],
-) -> Result<(), Fault> {
+) -> Result<(), PlainFault> {
     compare_texts(alloc, printed, texts.0, texts.1)?;
     compare_printed(alloc, printed, text, items)
 }
@@ -162,7 +172,7 @@ fn compare_tables(
     tables: &Tables,
     text: &[u8],
     items: &[Item],
-) -> Result<(), Fault> {
+) -> Result<(), PlainFault> {
     compare_scanned(alloc, tables, text, items, "the items by tables")?;
     let first = first_text_of(alloc, tables)?;
     let second = second_text_of(alloc, tables)?;
@@ -177,7 +187,7 @@ pub(crate) fn compare(
     spec: &Spec,
     text: &[u8],
     items: &[Item],
-) -> Result<(), Fault> {
+) -> Result<(), PlainFault> {
     compare_unmerged(alloc, spec, text, items)?;
     let tables = merged_tables(alloc, spec)?;
     compare_tables(alloc, &tables, text, items)

@@ -9,7 +9,7 @@ use thiserror::Error;
 
 /// Reason why nothing is listed.
 #[derive(Debug, Drop, Error)]
-pub(crate) enum Fault {
+pub(crate) enum PlainFault {
     #[error("two words are wanted: a specification and a file")]
     Words,
     /// A file or the output failed.

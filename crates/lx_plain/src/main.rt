@@ -13,7 +13,7 @@ mod places;
 mod scanner;
 
 use crate::comparison::compare;
-use crate::fault::Fault;
+use crate::fault::PlainFault;
 use crate::lines::lines_of;
 use crate::scanner::plain_items;
 use lx_spec::read_spec;
@@ -28,17 +28,17 @@ fn main(rt: HostRuntime) -> ExitCode {
     };
     let _ = eprintln!(rt; "lx_plain: {fault}");
     match fault {
-        Fault::Differs(_) => ExitCode::from(1),
+        PlainFault::Differs(_) => ExitCode::from(1),
         _ => ExitCode::from(2),
     }
 }
 
 /// Lists the file, and compares its items.
-fn list<R: AllocGlobal + Env + Files + Print>(rt: &R) -> Result<(), Fault> {
+fn list<R: AllocGlobal + Env + Files + Print>(rt: &R) -> Result<(), PlainFault> {
     let alloc = rt.alloc();
     let words: Vec<String> = env::args(rt)?.collect(alloc)?;
     let [_, rules, file] = words.as_slice() else {
-        return Err(Fault::Words);
+        return Err(PlainFault::Words);
     };
     let rules = fs::read(rt, rules.as_str())?;
     let text = fs::read(rt, file.as_str())?;

@@ -7,7 +7,7 @@ ghost use Rattle.lx_rules.specs.Names.{NameMatches};
 ghost use Rattle.lx_rules.specs.views.Rules.{definition_view};
 ghost use Rattle.lx_plain.specs.Places.{AreEnds, AreWithin, AnyNumber, AtMost};
 
-use crate::places::{add_new, behind_byte, copy_of};
+use crate::places::{add_new, copy_of, positions_after_byte};
 use lx_ere::expr::Expr;
 use lx_rules::definition::Definition;
 use std::alloc::{AllocError, Global};
@@ -34,7 +34,7 @@ pub(crate) fn ends(
     }
     match expr {
         Expr::Nil => copy_of(starts),
-        Expr::Set(set) => behind_byte(alloc, set, text, starts),
+        Expr::Set(set) => positions_after_byte(alloc, set, text, starts),
         Expr::Then(first, second) => {
             let middles = ends(alloc, definitions, depth, first, text, starts)?;
             ends(alloc, definitions, depth, second, text, &middles)
@@ -50,10 +50,18 @@ pub(crate) fn ends(
             match high {
                 None => any_number(alloc, definitions, depth, body, text, &owed),
                 Some(high) if *high < *low => Ok(BTreeSet::new(alloc)),
-                Some(high) => at_most(alloc, definitions, depth, body, *high - *low, text, &owed),
+                Some(high) => reach_of_words(
+                    alloc,
+                    definitions,
+                    depth,
+                    body,
+                    *high - *low,
+                    text,
+                    &owed,
+                ),
             }
         }
-        Expr::Name(name) => named(alloc, definitions, depth, name, text, starts),
+        Expr::Name(name) => reach_of_name(alloc, definitions, depth, name, text, starts),
     }
 }
 
@@ -82,7 +90,7 @@ fn exactly(
 
 // Returns the positions to which at most `most` words of the body lead.
 #[cycle(matcher)]
-fn at_most(
+fn reach_of_words(
     alloc: Global,
     definitions: &[Definition],
     depth: u8,
@@ -131,7 +139,7 @@ fn any_number(
 
 // Returns the positions to which words of the name's expression lead.
 #[cycle(matcher)]
-fn named(
+fn reach_of_name(
     alloc: Global,
     definitions: &[Definition],
     depth: u8,

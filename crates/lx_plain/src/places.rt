@@ -13,7 +13,7 @@ use std::alloc::{AllocError, Global};
 use std::collections::BTreeSet;
 
 /// Returns the positions after one byte of the set, from each of the starts.
-pub(crate) fn behind_byte(
+pub(crate) fn positions_after_byte(
     alloc: Global,
     set: &ByteSet,
     text: &[u8],

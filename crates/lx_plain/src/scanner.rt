@@ -35,7 +35,7 @@ fn take_steps(
 }
 
 // Returns the chosen steps and the number of bytes at the start of a text.
-fn chosen<'a>(
+fn choose_steps<'a>(
     alloc: Global,
     spec: &'a Spec,
     condition: u16,
@@ -81,7 +81,7 @@ pub(crate) fn plain_items(
             break;
         }
         let start = text.len().saturating_sub(rest.len());
-        let (steps, len) = chosen(alloc, spec, condition, begin, rest)?;
+        let (steps, len) = choose_steps(alloc, spec, condition, begin, rest)?;
         condition = take_steps(&mut items, steps, line, start, len, condition)?;
         let (front, behind) = rest.split_at(len.clamp(1, rest.len()));
         begin = front.last() == Some(&b'\n');

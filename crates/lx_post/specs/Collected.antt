@@ -1,7 +1,7 @@
 -- The notes that the delivering thread has received of a run that met no fault.
-use Rattle.std.specs.Prelude.{◌≡◌, ◌<◌, ◌≤◌, ℕ, List, None, All, Result, Err, OnOk, replicate, slice_index}
+use Rattle.std.specs.Prelude.{◌≡◌, ◌<◌, ◌≤◌, ℕ, List, None, All, Result, Err, OnOk, slice_index}
 use Rattle.lx_piece.specs.Plans.{Planned, files_of, max_files, max_workers}
-use Rattle.lx_piece.specs.Pieces.{Making, pieces_of, top_number}
+use Rattle.lx_piece.specs.Pieces.{Making, pieces_of}
 use Rattle.lx_piece.specs.Relayed.{AreAllAmongBy}
 use Rattle.lx_post.specs.Notes.{first_fault, pieces_among}
 use Rattle.lx_post.specs.Claimed.{Claimed}
@@ -17,12 +17,6 @@ use Rattle.lx_post.specs.Working.{IsDone, IsIdle, IsReady}
 pub record IsCollected {C : Type 0} (made : Making C) (plan : Planned) (take : Taken C) (counts : List ℕ) : Type 0 where
   pub faultless : first_fault take.received ≡ None
   pub whole : (file : ℕ) → file < files_of plan → AreAllAmongBy made plan file (pieces_among take.received) → slice_index counts file ≡ pieces_of plan file
-
--- a reader of this plan that took nothing, and whose faults can still be counted
-pub record TookNothing (plan of_reader : Planned) (counts : List ℕ) (faults : ℕ) : Type 0 where
-  pub same : of_reader ≡ plan
-  pub nothing : counts ≡ replicate (files_of plan) 0
-  pub countable : faults < top_number
 
 -- the meaning of an answer for the reader's faults before and after
 pub record TellsFaults {T : Type 0} (answer : Result T RunFault) (before after : ℕ) : Type 0 where

@@ -5,7 +5,7 @@ ghost use Rattle.lx_piece.specs.Plans.{max_files, max_workers};
 ghost use Rattle.lx_post.specs.Claimed.{IsSeatOf, fresh_seat, once_below, times, times_drawn};
 
 use crate::claim_seat::ClaimSeat;
-use crate::draw_rule::{Bounds, Count, Draw, DrawRule, OnePart, SeatView, Together};
+use crate::draw_rule::{Draw, DrawBounds, DrawCount, DrawRule, OnePart, SeatView, Together};
 use atomic_table::{Seat, Table};
 use std::alloc::{AllocError, Global};
 use std::marker::Model;
@@ -13,7 +13,7 @@ use std::marker::Model;
 /// The files of a run. Workers draw them, each once.
 #[derive(Drop)]
 pub struct Claims {
-    table: Table<(), SeatView, Bounds, DrawRule, Global>,
+    table: Table<(), SeatView, DrawBounds, DrawRule, Global>,
     files: u32,
     workers: u8,
 }
@@ -75,7 +75,7 @@ impl Claims {
         ensures claims { IfOk result (λ r. (r.0.files ≡ files) × (r.0.workers ≡ workers)) }
         ensures seat { IfOk result (λ r. IsFresh r.0 workers r.1) }
     {
-        let (table, seat) = Table::of_words(alloc, &[0], &Bounds { files, workers })?;
+        let (table, seat) = Table::of_words(alloc, &[0], &DrawBounds { files, workers })?;
         let claims = Claims {
             table,
             files,
@@ -152,7 +152,7 @@ impl Claims {
         while let Some(other) = seats.pop() {
             self.join(&mut one, other);
         }
-        self.look(&mut one);
+        self.learn_drawn_once(&mut one);
     }
 
     // Adds what another seat drew to what this one drew.
@@ -168,12 +168,12 @@ impl Claims {
     }
 
     // Learns from the word that every file was drawn once: the seat has all parts, and drew past the files.
-    fn look(&self, one: &mut Seat<(), SeatView>)
+    fn learn_drawn_once(&self, one: &mut Seat<(), SeatView>)
         requires this { (one.old.table_id ≡ self.now.word) × (one.old.me.0.files ≡ self.now.files) }
         requires all { self.now.workers ≤ one.old.me.0.parts }
         requires past { 0 < one.old.me.0.past }
         ensures { (x : ℕ) → times x one.old.me.0.drawn ≡ once_below x self.now.files }
     {
-        self.table.shared.load::<Count>(one, 0);
+        self.table.shared.load::<DrawCount>(one, 0);
     }
 }

@@ -1,7 +1,7 @@
 //! Delivers what workers send, on the calling thread.
 ghost use Rattle.std.specs.Prelude.{◌≡◌, OnOk};
-ghost use Rattle.lx_piece.specs.Relayed.{TakesAllInOrder};
-ghost use Rattle.lx_post.specs.Collected.{IsCollected, TellsFaults, TookNothing};
+ghost use Rattle.lx_piece.specs.Relayed.{TakesAllInOrder, TookNothing};
+ghost use Rattle.lx_post.specs.Collected.{IsCollected, TellsFaults};
 ghost use Rattle.lx_post.specs.Posted.{IsTakePassOf, fresh_take};
 
 use crate::run_context::RunContext;

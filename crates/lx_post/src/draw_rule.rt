@@ -17,7 +17,7 @@ pub struct SeatView {
 
 /// The number of files, and of the workers that draw them.
 #[derive(Drop)]
-pub struct Bounds {
+pub struct DrawBounds {
     pub files: u32,
     pub workers: u8,
 }
@@ -25,7 +25,7 @@ pub struct Bounds {
 /// The rule of drawing: the numbers below both the word and the number of files are drawn, each once.
 pub struct DrawRule;
 
-impl TableRule<(), SeatView, Bounds> for DrawRule {
+impl TableRule<(), SeatView, DrawBounds> for DrawRule {
     ghost use Rattle.std.specs.Prelude.{[]};
     ghost use Rattle.lx_post.specs.Draws.{seat_view, AreDrawnOnce};
 
@@ -66,9 +66,9 @@ impl Play<(), SeatView> for Draw {
 }
 
 /// A read of the word by the seat that has all parts.
-pub struct Count;
+pub struct DrawCount;
 
-impl Play<(), SeatView> for Count {
+impl Play<(), SeatView> for DrawCount {
     ghost use Rattle.lx_post.specs.Draws.{Counts};
 
     ghost then = { Counts };

@@ -1,10 +1,8 @@
 //! The calls by which several threads scan the files of a plan.
-ghost use Rattle.std.specs.Prelude.{◌≡◌, ◌<◌, ◌≤◌, Err, OnOk, replicate};
-ghost use Rattle.lx_piece.specs.Plans.{files_of, max_workers};
-ghost use Rattle.lx_piece.specs.Pieces.{top_number};
-ghost use Rattle.lx_piece.specs.Relayed.{TakesAllInOrder};
-ghost use Rattle.lx_post.specs.declared.run_fault.RunFault.{RunFault};
-ghost use Rattle.lx_post.specs.Collected.{IsWhole};
+ghost use Rattle.std.specs.Prelude.{◌≡◌, ◌<◌, ◌≤◌, OnOk};
+ghost use Rattle.lx_piece.specs.Plans.{max_workers};
+ghost use Rattle.lx_piece.specs.Relayed.{TakesAllInOrder, TookNothing};
+ghost use Rattle.lx_post.specs.Collected.{IsWhole, TellsFaults};
 
 use crate::{Gate, RunFault, Unstarted, scan};
 use lx_piece::{KeepItems, Maker, Plan, Reader, ReaderOf};
@@ -26,16 +24,13 @@ pub fn scan_all<W: Threads + Wait + Sync, G: Gate + Sync, R: Reader + Drop>(
 ) -> (R, Result<(), RunFault>)
     requires some_workers { 0 < workers }
     requires few_workers { workers ≤ max_workers }
-    requires reader_plan { R.plan reader ≡ plan.now }
-    requires nothing_taken { R.counts reader ≡ replicate (files_of plan.now) 0 }
-    requires countable { R.fault_count reader < top_number }
+    requires reader { TookNothing plan.now (R.plan reader) (R.counts reader)
+        (R.fault_count reader) }
     ensures ok { OnOk result.1 (IsWhole plan.now (R.counts result.0)) }
     ensures taken { TakesAllInOrder plan.now (R.counts result.0) }
     ensures follows { R.follows reader result.0 }
     ensures plan { R.plan result.0 ≡ R.plan reader }
-    ensures reader_fault { result.1 ≡ Err RunFault.Reader
-        → R.fault_count reader < R.fault_count result.0 }
-    ensures no_fault { OnOk result.1 (R.fault_count result.0 ≡ R.fault_count reader) }
+    ensures faults { TellsFaults result.1 (R.fault_count reader) (R.fault_count result.0) }
 {
     scan::<W, G, KeepItems, R>(
         rt,
@@ -67,16 +62,13 @@ pub fn scan_made<
 ) -> (R, Result<(), RunFault>)
     requires some_workers { 0 < workers }
     requires few_workers { workers ≤ max_workers }
-    requires reader_plan { R.plan reader ≡ plan.now }
-    requires nothing_taken { R.counts reader ≡ replicate (files_of plan.now) 0 }
-    requires countable { R.fault_count reader < top_number }
+    requires reader { TookNothing plan.now (R.plan reader) (R.counts reader)
+        (R.fault_count reader) }
     ensures ok { OnOk result.1 (IsWhole plan.now (R.counts result.0)) }
     ensures taken { TakesAllInOrder plan.now (R.counts result.0) }
     ensures follows { R.follows reader result.0 }
     ensures plan { R.plan result.0 ≡ R.plan reader }
-    ensures reader_fault { result.1 ≡ Err RunFault.Reader
-        → R.fault_count reader < R.fault_count result.0 }
-    ensures no_fault { OnOk result.1 (R.fault_count result.0 ≡ R.fault_count reader) }
+    ensures faults { TellsFaults result.1 (R.fault_count reader) (R.fault_count result.0) }
 {
     scan(
         rt,

@@ -43,7 +43,7 @@ impl Signals {
     }
 
     /// Signals that each worker was started, or its end was sent.
-    pub fn tell_start(&self) {
+    pub fn signal_start(&self) {
         self.all_started.store(true, Ordering::SeqCst);
     }
 

@@ -156,5 +156,5 @@ pub fn start_all<'s, 'a, E, W: Wait + Sync, G: Gate + Sync, M: Maker<Made: Send>
     for job in jobs {
         start_or_idle(context, scope, job, workers);
     }
-    context.signals.tell_start();
+    context.signals.signal_start();
 }

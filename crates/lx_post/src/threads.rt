@@ -1,11 +1,9 @@
 //! Scans every file of a plan by several threads.
-ghost use Rattle.std.specs.Prelude.{◌≡◌, ◌<◌, ◌≤◌, [], Err, OnOk, All, IfOk, replicate};
-ghost use Rattle.lx_piece.specs.Plans.{files_of, max_workers};
-ghost use Rattle.lx_piece.specs.Pieces.{top_number};
-ghost use Rattle.lx_piece.specs.Relayed.{TakesAllInOrder};
-ghost use Rattle.lx_post.specs.declared.run_fault.RunFault.{RunFault};
+ghost use Rattle.std.specs.Prelude.{◌≡◌, ◌<◌, ◌≤◌, [], Err, OnOk, All, IfOk};
+ghost use Rattle.lx_piece.specs.Plans.{max_workers};
+ghost use Rattle.lx_piece.specs.Relayed.{TakesAllInOrder, TookNothing};
 ghost use Rattle.lx_post.specs.Claimed.{fresh_seat};
-ghost use Rattle.lx_post.specs.Collected.{HasRun, IsPrepared, IsWhole, TellsFaultsOf, TookNothing};
+ghost use Rattle.lx_post.specs.Collected.{HasRun, IsPrepared, IsWhole, TellsFaults, TellsFaultsOf};
 ghost use Rattle.lx_post.specs.Posted.{fresh_send};
 ghost use Rattle.lx_post.specs.Working.{IsReady};
 
@@ -259,16 +257,13 @@ pub fn scan<
 ) -> (R, Result<(), RunFault>)
     requires some_workers { 0 < workers }
     requires few_workers { workers ≤ max_workers }
-    requires reader_plan { R.plan reader ≡ plan.now }
-    requires nothing_taken { R.counts reader ≡ replicate (files_of plan.now) 0 }
-    requires countable { R.fault_count reader < top_number }
+    requires reader { TookNothing plan.now (R.plan reader) (R.counts reader)
+        (R.fault_count reader) }
     ensures ok { OnOk result.1 (IsWhole plan.now (R.counts result.0)) }
     ensures taken { TakesAllInOrder plan.now (R.counts result.0) }
     ensures follows { R.follows reader result.0 }
     ensures plan { R.plan result.0 ≡ R.plan reader }
-    ensures reader_fault { result.1 ≡ Err RunFault.Reader
-        → R.fault_count reader < R.fault_count result.0 }
-    ensures no_fault { OnOk result.1 (R.fault_count result.0 ≡ R.fault_count reader) }
+    ensures faults { TellsFaults result.1 (R.fault_count reader) (R.fault_count result.0) }
 {
     let Ok((context, start)) = prepare(rt, alloc, plan, workers, gate, maker) else {
         return (reader, Err(RunFault::Memory));

@@ -16,7 +16,7 @@ pub struct FarAhead {
 }
 
 // Returns the state after `count` bytes, if they lead to one.
-fn behind_run(tables: &Tables, state: State, byte: u8, count: u32) -> Option<State>
+fn state_after_run(tables: &Tables, state: State, byte: u8, count: u32) -> Option<State>
     requires { state.0 < state_count tables.now.machine }
     ensures { IfSome result (λ s. s.0 < state_count tables.now.machine) }
 {
@@ -28,7 +28,7 @@ fn behind_run(tables: &Tables, state: State, byte: u8, count: u32) -> Option<Sta
 }
 
 // Returns true if none of `count` successive states on a byte, from `state` on, accepts, and each has a step.
-fn is_in_vain(tables: &Tables, state: State, byte: u8, count: u32) -> bool
+fn never_accepts(tables: &Tables, state: State, byte: u8, count: u32) -> bool
     requires { state.0 < state_count tables.now.machine }
 {
     let mut state = state;
@@ -46,12 +46,12 @@ fn is_in_vain(tables: &Tables, state: State, byte: u8, count: u32) -> bool
 
 // Returns a state of the cycle in which the runs of a byte end, if none of the cycle's states accepts. A run as long as the number of states reaches
 // the cycle.
-fn round_in_vain(tables: &Tables, start: State, byte: u8) -> Option<State>
+fn failing_cycle(tables: &Tables, start: State, byte: u8) -> Option<State>
     requires { start.0 < state_count tables.now.machine }
     ensures { IfSome result (λ s. s.0 < state_count tables.now.machine) }
 {
-    let state = behind_run(tables, start, byte, tables.states())?;
-    if is_in_vain(tables, state, byte, tables.states()) {
+    let state = state_after_run(tables, start, byte, tables.states())?;
+    if never_accepts(tables, state, byte, tables.states()) {
         Some(state)
     } else {
         None
@@ -111,7 +111,7 @@ fn look_at_run(
     requires seen { length seen.old.items ≡ state_count tables.now.machine }
     ensures seen { OnOk result (length seen.new.items ≡ state_count tables.now.machine) }
 {
-    let Some(state) = round_in_vain(tables, start, byte) else {
+    let Some(state) = failing_cycle(tables, start, byte) else {
         return Ok(());
     };
     if seen[state.0 as usize] {

@@ -5,7 +5,7 @@ ghost use Rattle.lx_automaton.specs.Automata.{state_count};
 ghost use Rattle.lx_reach.specs.Chosen.{AreFlagsOf, IsChosenIn, IsEverChosen};
 ghost use Rattle.lx_reach.specs.Taken.{AreCounted, IsCounted, IsTaken};
 
-use crate::reached::{reached, targets_of};
+use crate::reached::{reached_states, targets_of};
 use lx_tables::well_formed::tables_are_well_formed;
 use lx_tables::{State, Tables};
 use std::alloc::{AllocError, Global};
@@ -47,12 +47,17 @@ fn mark(tables: &Tables, states: &[u32], with_line_ends: bool, flags: &mut Vec<b
 
 // Tests for each rule if it is the choice for some text of bytes in a condition from `first` up to `end`. A match of no bytes is never a choice. The
 // newline of a `$` isn't a part of the token, so no text of one byte has a rule with `$` as its choice.
-fn taken(alloc: Global, tables: &Tables, first: u16, end: u16) -> Result<Vec<bool>, AllocError>
+fn takable_rules(
+    alloc: Global,
+    tables: &Tables,
+    first: u16,
+    end: u16,
+) -> Result<Vec<bool>, AllocError>
     requires end { end ≤ length tables.now.machine.starts }
     ensures { IfOk result
         (λ flags. AreFlagsOf (length tables.now.rules) (IsTaken tables.now first end) flags.items) }
 {
-    let any = reached(alloc, tables, first, end)?;
+    let any = reached_states(alloc, tables, first, end)?;
     let one = targets_of(alloc, tables, &any)?;
     let two = targets_of(alloc, tables, &one)?;
     let mut flags = vec![in alloc; false; tables.rules() as usize]?;
@@ -67,7 +72,7 @@ pub fn chosen_rules(alloc: Global, tables: &Tables) -> Result<Vec<bool>, AllocEr
     ensures { IfOk result
         (λ flags. AreFlagsOf (length tables.now.rules) (IsEverChosen tables.now) flags.items) }
 {
-    taken(alloc, tables, 0, tables.conditions())
+    takable_rules(alloc, tables, 0, tables.conditions())
 }
 
 /// Tests for each rule if it is the choice for some text of bytes in this condition.
@@ -78,5 +83,5 @@ pub fn chosen_in(alloc: Global, tables: &Tables, condition: u16) -> Result<Vec<b
 {
     // a law: there are few conditions
     tables_are_well_formed(tables);
-    taken(alloc, tables, condition, condition + 1)
+    takable_rules(alloc, tables, condition, condition + 1)
 }

@@ -14,7 +14,7 @@ use lx_tables::Tables;
 use std::alloc::{AllocError, Global};
 
 // Meets the conditions after the actions of the marked rules.
-fn meet_behind(
+fn meet_next(
     tables: &Tables,
     condition: u16,
     flags: &[bool],
@@ -45,7 +45,7 @@ fn meet_behind(
 }
 
 // Returns the conditions that are entered, in the order in which they were met.
-fn entered(alloc: Global, tables: &Tables) -> Result<Met, AllocError>
+fn conditions_met(alloc: Global, tables: &Tables) -> Result<Met, AllocError>
     ensures long { IfOk result (λ met. length met.places.items ≡ length tables.now.machine.starts) }
     ensures only { IfOk result
         (λ met. (c : ℕ) → slice_index met.places.items c ≢ 0 → IsEntered tables.now c) }
@@ -58,7 +58,7 @@ fn entered(alloc: Global, tables: &Tables) -> Result<Met, AllocError>
     while place < met.numbers.len() {
         let condition = met.numbers[place] as u16;
         let flags = chosen_in(alloc, tables, condition)?;
-        meet_behind(tables, condition, &flags, &mut met)?;
+        meet_next(tables, condition, &flags, &mut met)?;
         place += 1;
     }
     Ok(met)
@@ -85,6 +85,6 @@ pub fn entered_conditions(alloc: Global, tables: &Tables) -> Result<Vec<bool>, A
     ensures { IfOk result (λ flags.
         AreFlagsOf (length tables.now.machine.starts) (IsEntered tables.now) flags.items) }
 {
-    let met = entered(alloc, tables)?;
+    let met = conditions_met(alloc, tables)?;
     marks_of(alloc, &met.places)
 }

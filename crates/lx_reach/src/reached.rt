@@ -54,7 +54,12 @@ pub fn meet_targets(tables: &Tables, met: &mut Met, state: u32) -> Result<(), Al
 }
 
 /// Returns the states to which some text, maybe the empty one, leads from the conditions from `first` up to `end`. Err: an allocation failed.
-pub fn reached(alloc: Global, tables: &Tables, first: u16, end: u16) -> Result<Met, AllocError>
+pub fn reached_states(
+    alloc: Global,
+    tables: &Tables,
+    first: u16,
+    end: u16,
+) -> Result<Met, AllocError>
     requires end { end ≤ length tables.now.machine.starts }
     ensures met { IfOk result (λ met. AreMet met.numbers.items met.places.items) }
     ensures long { IfOk result (λ met. length met.places.items ≡ state_count tables.now.machine) }

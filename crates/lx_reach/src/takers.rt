@@ -64,7 +64,7 @@ fn meet(search: &mut Search, alone: &Tables, all: &Tables, pair: Pair) -> Result
 }
 
 // Returns the pair in which a condition begins.
-fn begun(alone: &Tables, all: &Tables, condition: u16, at_line_begin: bool) -> Pair
+fn first_pair(alone: &Tables, all: &Tables, condition: u16, at_line_begin: bool) -> Pair
     requires alone { condition < length alone.now.machine.starts }
     requires all { condition < length all.now.machine.starts }
     ensures { IsPair alone.now.machine all.now.machine result }
@@ -85,7 +85,7 @@ fn next_level(level: u8) -> u8
 }
 
 // Returns the pair after one more byte, if both states have a step.
-fn behind(alone: &Tables, all: &Tables, pair: Pair, place: usize, byte: u8) -> Option<Pair>
+fn step_pair(alone: &Tables, all: &Tables, pair: Pair, place: usize, byte: u8) -> Option<Pair>
     requires { IsPair alone.now.machine all.now.machine pair }
     ensures { IfSome result (IsPair alone.now.machine all.now.machine) }
 {
@@ -109,13 +109,13 @@ fn meet_starts(search: &mut Search, alone: &Tables, all: &Tables) -> Result<(), 
 {
     let conditions = all.conditions().min(alone.conditions());
     for condition in 0..conditions {
-        meet(search, alone, all, begun(alone, all, condition, false))?;
-        meet(search, alone, all, begun(alone, all, condition, true))?;
+        meet(search, alone, all, first_pair(alone, all, condition, false))?;
+        meet(search, alone, all, first_pair(alone, all, condition, true))?;
     }
     Ok(())
 }
 
-fn meet_behind(
+fn meet_next(
     search: &mut Search,
     alone: &Tables,
     all: &Tables,
@@ -131,14 +131,14 @@ fn meet_behind(
     ensures more { OnOk result (length search.old.pairs.items ≤ length search.new.pairs.items) }
 {
     for byte in 0..=255 {
-        if let Some(next) = behind(alone, all, pair, place, byte) {
+        if let Some(next) = step_pair(alone, all, pair, place, byte) {
             meet(search, alone, all, next)?;
         }
     }
     Ok(())
 }
 
-fn searched(alloc: Global, alone: &Tables, all: &Tables) -> Result<Search, AllocError>
+fn search_pairs(alloc: Global, alone: &Tables, all: &Tables) -> Result<Search, AllocError>
     ensures { IfOk result
         (λ search. All (IsPair alone.now.machine all.now.machine) search.pairs.items) }
 {
@@ -151,7 +151,7 @@ fn searched(alloc: Global, alone: &Tables, all: &Tables) -> Result<Search, Alloc
     let mut place = 0;
     while place < search.pairs.len() {
         let pair = search.pairs[place];
-        meet_behind(&mut search, alone, all, pair, place)?;
+        meet_next(&mut search, alone, all, pair, place)?;
         place += 1;
     }
     Ok(search)
@@ -189,7 +189,7 @@ pub fn takers_of(alloc: Global, alone: &Tables, all: &Tables, of: u16) -> Result
     ensures rules { IfOk result
         (λ takers. All (IsTaker alone.now.machine all.now.machine) takers.rules.items) }
 {
-    let search = searched(alloc, alone, all)?;
+    let search = search_pairs(alloc, alone, all)?;
     let mut rules = Vec::new(alloc);
     let mut example = Vec::new(alloc);
     for place in 0..search.pairs.len() {

@@ -12,13 +12,13 @@ fn reply_of(collector: &mut Collector, piece: Piece) -> Reply
     ensures { length collector.new.buffers ≡ length collector.old.buffers }
 {
     match collector.offer(piece) {
-        Ok(()) => Reply::Accepted,
+        Ok(()) => Reply::AcceptedParts,
         Err(refused) => Reply::Refused(refused.why),
     }
 }
 
 /// Returns the file and the number of the piece that is delivered next.
-fn delivered(collector: &mut Collector) -> Option<(u32, u64)>
+fn deliver_next(collector: &mut Collector) -> Option<(u32, u64)>
     ensures { length collector.new.buffers ≡ length collector.old.buffers }
 {
     match collector.deliver() {
@@ -47,11 +47,11 @@ pub(crate) fn expect_delivery(
 )
     ensures { length collector.new.buffers ≡ length collector.old.buffers }
 {
-    same(rt, &delivered(collector), &wanted);
+    same(rt, &deliver_next(collector), &wanted);
 }
 
 /// An arrival at a collector of run 1, by its run, file, number and mark. Also the reply to it, and what is delivered then, if anything is asked for.
-type Turn = (u64, u32, u64, Mark, Reply, Option<&'static [(u32, u64)]>);
+type CollectorRow = (u64, u32, u64, Mark, Reply, Option<&'static [(u32, u64)]>);
 
 /// Asserts that these are delivered, and then nothing.
 fn expect_deliveries(rt: &impl Abort, collector: &mut Collector, wanted: &[(u32, u64)])
@@ -64,7 +64,7 @@ fn expect_deliveries(rt: &impl Abort, collector: &mut Collector, wanted: &[(u32,
 }
 
 /// Asserts the results of a turn.
-fn expect_turn<R: Abort + AllocGlobal>(rt: &R, collector: &mut Collector, turn: &Turn)
+fn expect_turn<R: Abort + AllocGlobal>(rt: &R, collector: &mut Collector, turn: &CollectorRow)
     ensures { length collector.new.buffers ≡ length collector.old.buffers }
 {
     let (run, file, number, mark, reply, delivers) = *turn;
@@ -76,7 +76,7 @@ fn expect_turn<R: Abort + AllocGlobal>(rt: &R, collector: &mut Collector, turn: 
 }
 
 /// Asserts the results of the turns.
-fn expect_turns<R: Abort + AllocGlobal>(rt: &R, collector: &mut Collector, turns: &[Turn]) {
+fn expect_turns<R: Abort + AllocGlobal>(rt: &R, collector: &mut Collector, turns: &[CollectorRow]) {
     for turn in turns {
         expect_turn(rt, collector, turn);
     }
@@ -91,7 +91,7 @@ fn fresh_collector<R: Abort + AllocGlobal>(rt: &R, files: u32) -> Collector
     Collector::new(rt.alloc(), 1, files).expect(rt, "memory")
 }
 
-const ACCEPTED: Reply = Reply::Accepted;
+const ACCEPTED: Reply = Reply::AcceptedParts;
 
 const DOUBLE: Reply = Reply::Refused(Why::Double);
 
@@ -102,7 +102,7 @@ const CONTRADICTS: Reply = Reply::Refused(Why::Contradicts);
 const WRONG_RUN: Reply = Reply::Refused(Why::WrongRun);
 
 /// The pieces of a file in another order, with a duplicate and one after the last.
-const ONE_FILE: &[Turn] = &[
+const ONE_FILE: &[CollectorRow] = &[
     (1, 0, 2, Mark::Whole, ACCEPTED, Some(&[])),
     (1, 0, 0, Mark::More, ACCEPTED, Some(&[(0, 0)])),
     (1, 0, 0, Mark::More, DOUBLE, Some(&[])),
@@ -118,7 +118,7 @@ fn orders_the_pieces_of_a_file(rt: HostRuntime) {
 }
 
 /// Asserts the results of the turns in a new collector of `files` files.
-fn expect_fresh<R: Abort + AllocGlobal>(rt: &R, files: u32, turns: &[Turn])
+fn expect_fresh<R: Abort + AllocGlobal>(rt: &R, files: u32, turns: &[CollectorRow])
     requires some { 0 < files }
     requires few { files ≤ 65536 }
 {
@@ -126,13 +126,13 @@ fn expect_fresh<R: Abort + AllocGlobal>(rt: &R, files: u32, turns: &[Turn])
     expect_turns(rt, &mut collector, turns);
 }
 
-const WHOLE_BEFORE: &[Turn] = &[
+const WHOLE_BEFORE: &[CollectorRow] = &[
     (1, 0, 2, Mark::More, ACCEPTED, None),
     (1, 0, 0, Mark::Whole, CONTRADICTS, None),
     (1, 0, 0, Mark::More, ACCEPTED, None),
 ];
 
-const CUT_BEFORE: &[Turn] = &[
+const CUT_BEFORE: &[CollectorRow] = &[
     (1, 0, 2, Mark::More, ACCEPTED, None),
     (1, 0, 0, Mark::Cut, CONTRADICTS, None),
     (1, 0, 0, Mark::More, ACCEPTED, None),
@@ -144,7 +144,7 @@ fn refuses_a_marked_piece_before_an_accepted_one(rt: HostRuntime) {
     expect_fresh(&rt, 1, CUT_BEFORE);
 }
 
-const TWO_FILES: &[Turn] = &[
+const TWO_FILES: &[CollectorRow] = &[
     (1, 1, 0, Mark::Whole, ACCEPTED, None),
     (1, 0, 0, Mark::Whole, ACCEPTED, Some(&[(0, 0), (1, 0)])),
 ];
@@ -154,7 +154,7 @@ fn delivers_the_lowest_file_first(rt: HostRuntime) {
     expect_fresh(&rt, 2, TWO_FILES);
 }
 
-const GREATEST: &[Turn] = &[
+const GREATEST: &[CollectorRow] = &[
     (1, 0, u64::MAX, Mark::More, BEHIND, None),
     (1, 0, u64::MAX, Mark::Cut, BEHIND, None),
     (2, 0, u64::MAX, Mark::More, WRONG_RUN, None),
@@ -191,7 +191,7 @@ const WHOLE: (bool, bool) = (true, false);
 const CUT: (bool, bool) = (true, true);
 
 /// Turns, and the flags of the three files after each.
-const THREE_FILES: &[(Turn, Ends)] = &[
+const THREE_FILES: &[(CollectorRow, Ends)] = &[
     ((1, 0, 0, Mark::Cut, ACCEPTED, None), [OPEN, OPEN, OPEN]),
     (
         (1, 1, 1, Mark::Cut, ACCEPTED, Some(&[(0, 0)])),
@@ -220,7 +220,7 @@ fn a_file_is_cut_once_its_piece_that_says_so_was_delivered(rt: HostRuntime) {
 
 /// The parts of an accepted piece that the plain program below keeps.
 #[derive(Clone, Copy)]
-struct Accepted {
+struct AcceptedParts {
     file: u32,
     number: u64,
     mark: Mark,
@@ -228,7 +228,7 @@ struct Accepted {
 
 /// Returns one of the arrivals of which all lists of six consist. They are the three pieces of a plan of two files, the first of which is cut, a
 /// piece that contradicts them, and a foreign piece, of another file or of another run.
-fn arrival(symbol: u32, turn: u32) -> (u64, Accepted) {
+fn arrival(symbol: u32, turn: u32) -> (u64, AcceptedParts) {
     let (run, file, number, mark) = match symbol {
         0 => (1, 0, 0, Mark::More),
         1 => (1, 0, 1, Mark::Cut),
@@ -237,11 +237,11 @@ fn arrival(symbol: u32, turn: u32) -> (u64, Accepted) {
         _ if turn < 3 => (1, 2, 0, Mark::Whole),
         _ => (2, 0, 0, Mark::More),
     };
-    (run, Accepted { file, number, mark })
+    (run, AcceptedParts { file, number, mark })
 }
 
 /// Returns true if a piece of the file with this number was accepted.
-fn is_accepted(accepted: &[Accepted], file: u32, number: u64) -> bool {
+fn is_accepted(accepted: &[AcceptedParts], file: u32, number: u64) -> bool {
     for q in accepted {
         if q.file == file && q.number == number {
             return true;
@@ -251,7 +251,7 @@ fn is_accepted(accepted: &[Accepted], file: u32, number: u64) -> bool {
 }
 
 /// Returns true if a closing piece of the file below this number was accepted.
-fn is_marked_below(accepted: &[Accepted], file: u32, number: u64) -> bool {
+fn is_marked_below(accepted: &[AcceptedParts], file: u32, number: u64) -> bool {
     for q in accepted {
         if q.file == file && q.mark != Mark::More && q.number < number {
             return true;
@@ -261,7 +261,7 @@ fn is_marked_below(accepted: &[Accepted], file: u32, number: u64) -> bool {
 }
 
 /// Returns true if a piece below this number that marks the file as cut was accepted.
-fn is_cut_below(accepted: &[Accepted], file: u32, number: u64) -> bool {
+fn is_cut_below(accepted: &[AcceptedParts], file: u32, number: u64) -> bool {
     for q in accepted {
         if q.file == file && q.mark == Mark::Cut && q.number < number {
             return true;
@@ -271,7 +271,7 @@ fn is_cut_below(accepted: &[Accepted], file: u32, number: u64) -> bool {
 }
 
 /// Returns true if a piece of the file above this number was accepted.
-fn is_any_above(accepted: &[Accepted], file: u32, number: u64) -> bool {
+fn is_any_above(accepted: &[AcceptedParts], file: u32, number: u64) -> bool {
     for q in accepted {
         if q.file == file && q.number > number {
             return true;
@@ -281,7 +281,7 @@ fn is_any_above(accepted: &[Accepted], file: u32, number: u64) -> bool {
 }
 
 /// Returns the first cause that holds against an arrival, in a collector of run 1 and two files.
-fn plain_reply(before: &[Accepted], run: u64, p: Accepted) -> Reply {
+fn plain_reply(before: &[AcceptedParts], run: u64, p: AcceptedParts) -> Reply {
     if run != 1 {
         Reply::Refused(Why::WrongRun)
     } else if p.file >= 2 {
@@ -293,12 +293,12 @@ fn plain_reply(before: &[Accepted], run: u64, p: Accepted) -> Reply {
     } else if p.mark != Mark::More && is_any_above(before, p.file, p.number) {
         Reply::Refused(Why::Contradicts)
     } else {
-        Reply::Accepted
+        Reply::AcceptedParts
     }
 }
 
 /// Returns the next delivery, given the number of delivered pieces of each of two files.
-fn plain_delivery(accepted: &[Accepted], counts: (u64, u64)) -> Option<(u32, u64)> {
+fn plain_delivery(accepted: &[AcceptedParts], counts: (u64, u64)) -> Option<(u32, u64)> {
     if is_accepted(accepted, 0, counts.0) {
         Some((0, counts.0))
     } else if is_accepted(accepted, 1, counts.1) {
@@ -309,14 +309,14 @@ fn plain_delivery(accepted: &[Accepted], counts: (u64, u64)) -> Option<(u32, u64
 }
 
 /// Returns the flags of the file for closed and cut, given its number of delivered pieces.
-fn plain_end(accepted: &[Accepted], file: u32, count: u64) -> (bool, bool) {
+fn plain_end(accepted: &[AcceptedParts], file: u32, count: u64) -> (bool, bool) {
     (
         is_marked_below(accepted, file, count),
         is_cut_below(accepted, file, count),
     )
 }
 
-fn raised(counts: (u64, u64), file: u32) -> (u64, u64) {
+fn raise(counts: (u64, u64), file: u32) -> (u64, u64) {
     if file == 0 {
         (counts.0.wrapping_add(1), counts.1)
     } else {
@@ -333,14 +333,14 @@ fn expect_delivered(
 )
     ensures { length collector.new.buffers ≡ length collector.old.buffers }
 {
-    holds(rt, delivered(collector) == wanted, u64::from(list));
+    holds(rt, deliver_next(collector) == wanted, u64::from(list));
 }
 
 /// Asserts that all is delivered as defined, given the number of delivered pieces of each file. Returns the new numbers.
 fn delivers_as_defined(
     rt: &impl Abort,
     collector: &mut Collector,
-    accepted: &[Accepted],
+    accepted: &[AcceptedParts],
     counts: (u64, u64),
     list: u32,
 ) -> (u64, u64)
@@ -351,7 +351,7 @@ fn delivers_as_defined(
         let delivery = plain_delivery(accepted, counts);
         expect_delivered(rt, collector, delivery, list);
         if let Some((file, _)) = delivery {
-            counts = raised(counts, file);
+            counts = raise(counts, file);
         }
     }
     counts
@@ -361,7 +361,7 @@ fn delivers_as_defined(
 fn ends_as_defined(
     rt: &impl Abort,
     collector: &Collector,
-    accepted: &[Accepted],
+    accepted: &[AcceptedParts],
     counts: (u64, u64),
     list: u32,
 )
@@ -385,8 +385,8 @@ fn ends_as_defined(
 fn answers_as_defined<R: Abort + AllocGlobal>(
     rt: &R,
     collector: &mut Collector,
-    accepted: &mut Vec<Accepted>,
-    arrived: (u64, Accepted),
+    accepted: &mut Vec<AcceptedParts>,
+    arrived: (u64, AcceptedParts),
     list: u32,
 )
     ensures { length collector.new.buffers ≡ length collector.old.buffers }
@@ -395,7 +395,7 @@ fn answers_as_defined<R: Abort + AllocGlobal>(
     let wanted = plain_reply(accepted, run, next);
     let offered = piece(rt.alloc(), run, next.file, next.number, next.mark);
     holds(rt, reply_of(collector, offered) == wanted, u64::from(list));
-    if wanted == Reply::Accepted {
+    if wanted == Reply::AcceptedParts {
         accepted.push(next).expect(rt, "memory");
     }
 }

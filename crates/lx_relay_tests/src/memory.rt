@@ -211,7 +211,7 @@ fn a_cutter_gives_the_piece_that_was_refused(rt: HostRuntime) {
 
 /// The outcome of a relay.
 #[derive(Clone, Copy, Debug, PartialEq, Eq)]
-enum Outcome {
+enum RelayOutcome {
     /// All pieces were taken.
     Whole,
     /// An allocation failed. The files after one that wasn't taken completely have nothing.
@@ -250,26 +250,26 @@ fn expect_relayed(
     rt: &impl Abort,
     relayed: Result<Vec<Reply>, RelayFault>,
     taken: &[u64],
-) -> Outcome {
+) -> RelayOutcome {
     match relayed {
         Ok(replies) => {
             expect_whole(rt, &replies, taken);
-            Outcome::Whole
+            RelayOutcome::Whole
         }
         Err(fault) => {
             holds(rt, fault == RelayFault::Memory && is_front(taken), 0);
-            Outcome::Part
+            RelayOutcome::Part
         }
     }
 }
 
 /// Relays the pieces of a plan of three files of 3, 1 and 2 pieces, the last file first.
-fn relay_three(rt: &impl Abort, alloc: Global, plan: &Plan) -> Outcome {
+fn relay_three(rt: &impl Abort, alloc: Global, plan: &Plan) -> RelayOutcome {
     let Ok(mut tally) = fresh_tally(alloc, plan, u64::MAX) else {
-        return Outcome::Untried;
+        return RelayOutcome::Untried;
     };
     let Ok(pieces) = last_file_first(alloc, plan) else {
-        return Outcome::Untried;
+        return RelayOutcome::Untried;
     };
     let relayed = relay_list(alloc, plan, pieces, &mut tally);
     expect_relayed(rt, relayed, &tally.counts)
@@ -277,8 +277,8 @@ fn relay_three(rt: &impl Abort, alloc: Global, plan: &Plan) -> Outcome {
 
 /// Relays them, and all again if only a part was taken.
 fn relay_again(rt: &impl Abort, alloc: Global, plan: &Plan) {
-    if relay_three(rt, alloc, plan) == Outcome::Part {
-        same(rt, &relay_three(rt, alloc, plan), &Outcome::Whole);
+    if relay_three(rt, alloc, plan) == RelayOutcome::Part {
+        same(rt, &relay_three(rt, alloc, plan), &RelayOutcome::Whole);
     }
 }
 

@@ -16,7 +16,7 @@ use std::process::Abort;
 type ItemParts = (Option<Kind>, u64, usize, usize);
 
 /// A piece's file, number, mark and number of items, and the first and the last of its items.
-type Shape = (u32, u64, Mark, usize, Option<ItemParts>, Option<ItemParts>);
+type PieceShape = (u32, u64, Mark, usize, Option<ItemParts>, Option<ItemParts>);
 
 fn item_parts(item: Item) -> ItemParts {
     match item {
@@ -37,7 +37,7 @@ fn item_parts_of(item: Option<&Item>) -> Option<ItemParts> {
     }
 }
 
-fn shape(piece: &Piece) -> Shape {
+fn shape(piece: &Piece) -> PieceShape {
     let items = piece.items.as_slice();
     let (first, last) = (item_parts_of(items.first()), item_parts_of(items.last()));
     (
@@ -51,7 +51,7 @@ fn shape(piece: &Piece) -> Shape {
 }
 
 /// Asserts that these pieces have these shapes.
-fn expect_shapes(rt: &impl Abort, pieces: &[Piece], wanted: &[Shape]) {
+fn expect_shapes(rt: &impl Abort, pieces: &[Piece], wanted: &[PieceShape]) {
     same(rt, &pieces.len(), &wanted.len());
     for (piece, wanted) in pieces.iter().zip(wanted) {
         same(rt, &shape(piece), wanted);
@@ -59,7 +59,7 @@ fn expect_shapes(rt: &impl Abort, pieces: &[Piece], wanted: &[Shape]) {
 }
 
 /// Asserts the shapes of a plan's pieces, the last file first.
-fn expect<R: Abort + AllocGlobal>(rt: &R, plan: &Plan, wanted: &[Shape]) {
+fn expect<R: Abort + AllocGlobal>(rt: &R, plan: &Plan, wanted: &[PieceShape]) {
     let pieces = last_file_first(rt.alloc(), plan).expect(rt, "memory");
     expect_shapes(rt, &pieces, wanted);
 }
@@ -81,7 +81,7 @@ fn expect_of<R: Abort + AllocGlobal>(
     spec: &str,
     files: &[(&[u8], bool)],
     per_piece: u32,
-    wanted: &[Shape],
+    wanted: &[PieceShape],
 )
     requires some_files { 0 < length files.now }
     requires few_files { length files.now ≤ 65536 }
@@ -101,7 +101,7 @@ const SECOND: Option<Kind> = Some(Kind::Name(1));
 const NUMBER: Option<Kind> = Some(Kind::Number(65));
 
 /// Pieces of the mixed files, of at most two items. The text between `<` and `>` yields an Echo and a token, which are in two pieces.
-const MIXED: &[Shape] = &[
+const MIXED: &[PieceShape] = &[
     (
         4,
         0,
@@ -168,7 +168,7 @@ fn the_last_piece_of_a_file_is_marked(rt: HostRuntime) {
 }
 
 /// Pieces of files of 256, 257, 512 and 0 Echoes.
-const FULL: &[Shape] = &[
+const FULL: &[PieceShape] = &[
     (3, 0, Mark::Whole, 0, None, None),
     (
         2,
@@ -219,7 +219,7 @@ fn cuts_files_into_full_pieces_and_a_rest(rt: HostRuntime) {
 }
 
 /// Pieces of two words in a file with skipped text after them, which was read to its end.
-const WHOLE_WORDS: &[Shape] = &[
+const WHOLE_WORDS: &[PieceShape] = &[
     (
         0,
         0,
@@ -239,7 +239,7 @@ const WHOLE_WORDS: &[Shape] = &[
 ];
 
 /// Pieces of the same words, if the reading of the file failed.
-const CUT_WORDS: &[Shape] = &[
+const CUT_WORDS: &[PieceShape] = &[
     (
         0,
         0,
@@ -272,7 +272,7 @@ fn the_last_piece_is_marked_though_skipped_text_follows(rt: HostRuntime) {
 /// A rule whose action yields three items.
 const THREE_ITEMS: &str = "%%\na { ECHO; ECHO; return A; }\n";
 
-const TWO_MATCHES: &[Shape] = &[
+const TWO_MATCHES: &[PieceShape] = &[
     (
         0,
         0,

@@ -22,7 +22,7 @@ enum Saying {
     End(u8, u32, Option<WorkerFault>),
 }
 
-fn said(note: &Note) -> Saying {
+fn saying_of(note: &Note) -> Saying {
     match note {
         Note::Piece { worker, piece } => Saying::Piece(*worker, piece.file, piece.number),
         Note::End {
@@ -34,12 +34,12 @@ fn said(note: &Note) -> Saying {
 }
 
 /// Receives the next note, and returns its contents.
-fn received<R: Wait>(rt: &R, post: &Post, take: &mut TakePass) -> Option<Saying>
+fn receive_next<R: Wait>(rt: &R, post: &Post, take: &mut TakePass) -> Option<Saying>
     requires { IsTakePassOf post.now take.old }
     ensures { IsTakePassOf post.now take.new }
 {
     match post.receive(rt, take) {
-        Some(note) => Some(said(&note)),
+        Some(note) => Some(saying_of(&note)),
         None => None,
     }
 }
@@ -49,7 +49,7 @@ fn receives<R: Wait + Abort>(rt: &R, post: &Post, take: &mut TakePass, wanted: O
     requires { IsTakePassOf post.now take.old }
     ensures { IsTakePassOf post.now take.new }
 {
-    same(rt, &received(rt, post, take), &wanted);
+    same(rt, &receive_next(rt, post, take), &wanted);
 }
 
 /// Makes a post of two workers with room for `room` notes, the pass of each, and the one to receive with.

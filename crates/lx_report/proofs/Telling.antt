@@ -2,7 +2,7 @@
 use Rattle.std.proofs.Common.{ℕ, ◌≡◌, ◌<◌, Bool, true, false, List, [], ◌∷◌, ◌++◌, codes, sym, ap, subst, ◌∙◌, append_assoc, append-nil}
 use Rattle.std.proofs.lemmas.List.Elements.{All-head, All-same}
 use Rattle.lx_report.specs.Lines.{code_text, finding_line, head_text, shown, tag_text}
-use Rattle.lx_report.specs.declared.finding.Place.{Place}
+use Rattle.lx_report.specs.declared.finding.ReportPlace.{ReportPlace}
 use Rattle.lx_report.specs.declared.finding.Severity.TheVariants.{Error, Warning}
 use Rattle.lx_warnings.specs.Kinds.{has_kind}
 use Rattle.lx_warnings.specs.Names.{name_text}
@@ -18,7 +18,7 @@ pub extends_more : (old mid new : List ℕ) → Extends old mid → Extends mid 
 extends_more old mid new h k = record { more = h.more ++ k.more; is = k.is ∙ (ap (λ bs. bs ++ k.more) h.is ∙ append_assoc old h.more k.more) }
 
 -- the line of an error
-pub told_line : (file code words name : List ℕ) (place : Place) (line : ℕ) (old new : List ℕ) → place.line ≡ line
+pub told_line : (file code words name : List ℕ) (place : ReportPlace) (line : ℕ) (old new : List ℕ) → place.line ≡ line
     → new ≡ old ++ finding_line file Error place code words name → TellsFault file code line old new
 told_line file code words name place line old new at h =
     record { place = place; at_line = at; rest = shown words ++ (tag_text Error name ++ codes "\n"); said = h }

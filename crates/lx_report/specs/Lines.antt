@@ -2,7 +2,7 @@
 use Rattle.std.specs.Prelude.{ℕ, ◌-◌, ◌==◌, Bool, true, false, nat_lt, if◌then◌else◌, List, [], ◌++◌, codes, decimal, length, take, drop}
 use Rattle.std.specs.List.{flat_map}
 use Rattle.lx_report.specs.Bytes.{shown_byte, source_byte, times}
-use Rattle.lx_report.specs.declared.finding.Place.{Place}
+use Rattle.lx_report.specs.declared.finding.ReportPlace.{ReportPlace}
 use Rattle.lx_report.specs.declared.finding.Severity.{Severity}
 use Rattle.lx_report.specs.declared.finding.Severity.TheVariants.{Error, Warning, Note}
 
@@ -14,7 +14,7 @@ abbrev pub column_text : ℕ → List ℕ
 column_text column = if column == 0 then [] else codes ":" ++ decimal column
 
 -- `:LINE:COLUMN`, or the known part of it
-abbrev pub place_text : Place → List ℕ
+abbrev pub place_text : ReportPlace → List ℕ
 place_text place =
     if place.line == 0 then []
     else codes ":" ++ (decimal place.line ++ column_text place.column)
@@ -35,7 +35,7 @@ tag_text Warning name = codes " [" ++ (shown name ++ codes "]")
 tag_text Note name = []
 
 -- its place and its severity
-abbrev pub head_text : List ℕ → Place → Severity → List ℕ
+abbrev pub head_text : List ℕ → ReportPlace → Severity → List ℕ
 head_text file place severity = shown file ++ (place_text place ++ severity_text severity)
 
 -- its message
@@ -43,7 +43,7 @@ abbrev pub said_text : Severity → List ℕ → List ℕ → List ℕ → List 
 said_text severity code words name = code_text code ++ (shown words ++ (tag_text severity name ++ codes "\n"))
 
 -- a finding in a line
-abbrev pub finding_line : List ℕ → Severity → Place → List ℕ → List ℕ → List ℕ → List ℕ
+abbrev pub finding_line : List ℕ → Severity → ReportPlace → List ℕ → List ℕ → List ℕ → List ℕ
 finding_line file severity place code words name = head_text file place severity ++ said_text severity code words name
 
 -- ---- the line of the source, with a mark below the place

@@ -1,12 +1,12 @@
 -- The report on a specification.
 use Rattle.std.specs.Prelude.{◌≡◌, ◌<◌, ℕ, ⊤, All, Bool, true, false, List, [], ◌∷◌, ◌++◌, codes}
-use Rattle.lx_check.specs.declared.finding.Finding.{Finding}
-use Rattle.lx_check.specs.declared.finding.Finding.TheVariants as finding
+use Rattle.lx_check.specs.declared.text_fault.TextFault.{TextFault}
+use Rattle.lx_check.specs.declared.text_fault.TextFault.TheVariants as finding
 use Rattle.lx_check.specs.declared.report.Report.{Report}
 use Rattle.lx_check.specs.declared.report.Report.TheVariants as report
 use Rattle.lx_diagnose.specs.CodeWords.{word_of}
 use Rattle.lx_report.specs.Lines.{code_text, finding_line, head_text, shown}
-use Rattle.lx_report.specs.declared.finding.Place.{Place}
+use Rattle.lx_report.specs.declared.finding.ReportPlace.{ReportPlace}
 use Rattle.lx_report.specs.declared.finding.Severity.TheVariants.{Error, Warning}
 use Rattle.lx_warnings.specs.Kinds.{has_kind}
 use Rattle.lx_warnings.specs.Names.{name_text}
@@ -15,13 +15,13 @@ use Rattle.lx_warnings.specs.declared.kinds.WarningKind.{WarningKind}
 use Rattle.lx_warnings.specs.declared.warnings.Warning.{Warning as WarningTold}
 
 -- the code of a finding
-abbrev pub code_of : Finding → List ℕ
+abbrev pub code_of : TextFault → List ℕ
 code_of (finding.Specification fault) = word_of fault.code
 code_of finding.TooManyPositions = codes "E30"
 code_of finding.TooManySets = codes "E31"
 
 -- its line; 0 if it has none
-abbrev pub line_of : Finding → ℕ
+abbrev pub line_of : TextFault → ℕ
 line_of (finding.Specification fault) = fault.line
 line_of finding.TooManyPositions = 0
 line_of finding.TooManySets = 0
@@ -33,13 +33,13 @@ pub record Extends (old new : List ℕ) : Type 0 where
 
 -- To a text was appended a line of a fault. It begins with the file, this line and maybe a column, and the code of the error.
 pub record TellsFault (file : List ℕ) (code : List ℕ) (line : ℕ) (old new : List ℕ) : Type 0 where
-  pub place : Place
+  pub place : ReportPlace
   pub at_line : place.line ≡ line
   pub rest : List ℕ
   pub said : new ≡ old ++ (head_text file place Error ++ (code_text code ++ rest))
 
 -- The report begins with the first of some findings.
-abbrev pub TellsFirst : List ℕ → List Finding → List ℕ → Type 0
+abbrev pub TellsFirst : List ℕ → List TextFault → List ℕ → Type 0
 TellsFirst file [] said = ⊤
 TellsFirst file (finding ∷ more) said = TellsFault file (code_of finding) (line_of finding) [] said
 
@@ -56,7 +56,7 @@ AreAsked asked told = All (λ warning. has_kind asked warning.kind ≡ true) tol
 
 -- To a text was appended the line of a warning of this kind.
 pub record TellsWarning (file : List ℕ) (kind : WarningKind) (old new : List ℕ) : Type 0 where
-  pub place : Place
+  pub place : ReportPlace
   pub words : List ℕ
   pub rest : List ℕ
   pub said : new ≡ old ++ (finding_line file Warning place [] words (name_text kind) ++ rest)

@@ -3,7 +3,7 @@ use Rattle.std.specs.Prelude.{ℕ, ◌+◌, ◌==◌, ◌&&◌, not, min, max, i
 use Rattle.std.specs.List.{flat_map}
 use Rattle.lx_report.specs.Bytes.{shown_string, uri_byte}
 use Rattle.lx_report.specs.Lines.{shown}
-use Rattle.lx_report.specs.declared.finding.Place.{Place}
+use Rattle.lx_report.specs.declared.finding.ReportPlace.{ReportPlace}
 use Rattle.lx_report.specs.declared.finding.Severity.{Severity}
 use Rattle.lx_report.specs.declared.finding.Severity.TheVariants.{Error, Warning, Note}
 
@@ -53,24 +53,24 @@ abbrev pub max_column : ℕ
 max_column = 18446744073709551615
 
 -- the column after a place
-abbrev pub behind : Place → ℕ
+abbrev pub behind : ReportPlace → ℕ
 behind place = min (place.column + max place.width 1) max_column
 
 abbrev pub first_line : ℕ → List ℕ
 first_line line = codes ",\"region\":{\"startLine\":" ++ decimal line
 
-abbrev pub known_region : Place → List ℕ
+abbrev pub known_region : ReportPlace → List ℕ
 known_region place = first_line place.line ++ (columns place.column (behind place) ++ codes "}")
 
-abbrev pub region : Place → List ℕ
+abbrev pub region : ReportPlace → List ℕ
 region place = if place.line == 0 then [] else known_region place
 
-abbrev pub location : List ℕ → Place → List ℕ
+abbrev pub location : List ℕ → ReportPlace → List ℕ
 location file place = artifact file ++ (region place ++ codes "}}]}")
 
 abbrev pub what : Severity → List ℕ → List ℕ → List ℕ → List ℕ
 what severity code words name = rule_id code name ++ (level severity ++ message words)
 
 -- a finding as a result
-abbrev pub result_text : List ℕ → Severity → Place → List ℕ → List ℕ → List ℕ → List ℕ
+abbrev pub result_text : List ℕ → Severity → ReportPlace → List ℕ → List ℕ → List ℕ → List ℕ
 result_text file severity place code words name = what severity code words name ++ location file place

@@ -7,9 +7,11 @@ ghost use Rattle.lx_report.specs.Said.{Extends, TellsFault, code_of, line_of};
 
 use crate::pieces::{place_of, push_line, push_note, push_source};
 use crate::style::Style;
-use crate::{Place, Severity};
-use lx_check::Finding;
-use lx_diagnose::{Diagnosis, code_word, diagnose, hint, note_words, sentence, to_do, words_of};
+use crate::{ReportPlace, Severity};
+use lx_check::TextFault;
+use lx_diagnose::{
+    Diagnosis, advice_of, code_word, diagnose, hint, note_words, sentence, words_of,
+};
 use lx_spec::SpecFault;
 use std::alloc::{AllocError, Global};
 
@@ -88,7 +90,7 @@ fn push_fault(
 fn push_too_large(text: &mut Vec<u8>, style: &Style<'_>, code: &str) -> Result<(), AllocError>
     ensures { OnOk result (TellsFault style.now.file.now code.now 0 text.old.items text.new.items) }
 {
-    let nowhere = Place {
+    let nowhere = ReportPlace {
         line: 0,
         column: 0,
         width: 0,
@@ -105,7 +107,7 @@ fn push_too_large(text: &mut Vec<u8>, style: &Style<'_>, code: &str) -> Result<(
     if style.quiet {
         return Ok(());
     }
-    push_note(text, style.file, nowhere, to_do(code).as_bytes())
+    push_note(text, style.file, nowhere, advice_of(code).as_bytes())
 }
 
 /// Appends a finding of a text that is rejected.
@@ -114,14 +116,14 @@ pub(crate) fn push_error(
     text: &mut Vec<u8>,
     style: &Style<'_>,
     source: &[u8],
-    finding: Finding,
+    finding: TextFault,
 ) -> Result<(), AllocError>
     ensures { OnOk result (TellsFault style.now.file.now (code_of finding) (line_of finding)
         text.old.items text.new.items) }
 {
     match finding {
-        Finding::Specification(fault) => push_fault(alloc, text, style, source, fault),
-        Finding::TooManyPositions => push_too_large(text, style, "E30"),
-        Finding::TooManySets => push_too_large(text, style, "E31"),
+        TextFault::Specification(fault) => push_fault(alloc, text, style, source, fault),
+        TextFault::TooManyPositions => push_too_large(text, style, "E30"),
+        TextFault::TooManySets => push_too_large(text, style, "E31"),
     }
 }

@@ -13,7 +13,7 @@ pub enum Severity {
 
 /// A place in a text. Lines and columns are counted from 1, columns in bytes.
 #[derive(Clone, Copy, Debug, Drop)]
-pub struct Place {
+pub struct ReportPlace {
     /// Line number; 0 if the place is the whole text.
     pub line: u64,
     /// Column number; 0 if it isn't known.
@@ -28,7 +28,7 @@ pub struct Finding<'a> {
     /// Severity of the finding.
     pub severity: Severity,
     /// Place of the finding.
-    pub place: Place,
+    pub place: ReportPlace,
     /// Code of an error, otherwise empty.
     pub code: &'a [u8],
     /// Text of the finding: what is wrong, or what to do.

@@ -18,6 +18,6 @@ pub use crate::sarif_report::sarif_of;
 pub use crate::saying::{Said, report_of};
 pub use crate::style::Style;
 pub use bytes::{push_number, push_shown};
-pub use finding::{Finding, Place, Severity};
+pub use finding::{Finding, ReportPlace, Severity};
 pub use lines::{push_finding, push_marked};
 pub use sarif::{push_result, push_sarif_end, push_sarif_start};

@@ -4,7 +4,7 @@ ghost use Rattle.std.specs.Prelude.{◌≡◌, ◌++◌, IfOk, OnOk, decimal, le
 ghost use Rattle.lx_report.specs.Lines as specs;
 
 use crate::bytes::{push, push_numbered, push_shown, push_source, push_times};
-use crate::finding::{Finding, Place, Severity};
+use crate::finding::{Finding, ReportPlace, Severity};
 use itoa::Buffer;
 use std::alloc::{AllocError, Global};
 
@@ -22,7 +22,7 @@ fn push_column(text: &mut Vec<u8>, column: u64) -> Result<(), AllocError>
     push_numbered(text, b":", column)
 }
 
-fn push_place(text: &mut Vec<u8>, place: Place) -> Result<(), AllocError>
+fn push_place(text: &mut Vec<u8>, place: ReportPlace) -> Result<(), AllocError>
     ensures { OnOk result (text.new.items ≡ text.old.items ++ specs.place_text place) }
 {
     if place.line == 0 {
@@ -85,7 +85,7 @@ pub fn push_finding(
 }
 
 // Returns the number of hidden bytes at the start of a line.
-fn hidden(column: usize) -> usize
+fn hidden_bytes(column: usize) -> usize
     ensures { result ≡ specs.hidden column }
 {
     column.saturating_sub(1).saturating_sub(MOST_BEFORE)
@@ -95,7 +95,7 @@ fn hidden(column: usize) -> usize
 fn part(column: usize, line: &[u8]) -> &[u8]
     ensures { result.now ≡ specs.part column line.now }
 {
-    let front = hidden(column).min(line.len());
+    let front = hidden_bytes(column).min(line.len());
     let rest = &line[front..];
     &rest[..MOST_SHOWN.min(rest.len())]
 }
@@ -110,13 +110,13 @@ fn push_cut(text: &mut Vec<u8>, is_cut: bool) -> Result<(), AllocError>
 fn is_cut_before(column: usize) -> bool
     ensures { result ≡ specs.is_cut_before column }
 {
-    0 < hidden(column)
+    0 < hidden_bytes(column)
 }
 
-fn is_cut_behind(column: usize, line: &[u8]) -> bool
+fn is_cut_after(column: usize, line: &[u8]) -> bool
     ensures { result ≡ specs.is_cut_behind column line.now }
 {
-    MOST_SHOWN < line.len().saturating_sub(hidden(column))
+    MOST_SHOWN < line.len().saturating_sub(hidden_bytes(column))
 }
 
 // Returns the number of columns that are printed before the place.
@@ -124,7 +124,7 @@ fn width_before(alloc: Global, column: usize, line: &[u8]) -> Result<usize, Allo
     ensures { IfOk result (λ width. width ≡ length (specs.printed_before column line.now)) }
 {
     let shown = part(column, line);
-    let before = column.saturating_sub(1) - hidden(column);
+    let before = column.saturating_sub(1) - hidden_bytes(column);
     let mut text = Vec::new(alloc);
     push_cut(&mut text, is_cut_before(column))?;
     push_source(&mut text, &shown[..shown.len().min(before)])?;
@@ -137,7 +137,7 @@ fn push_part(text: &mut Vec<u8>, column: usize, line: &[u8]) -> Result<(), Alloc
 {
     push_cut(text, is_cut_before(column))?;
     push_source(text, part(column, line))?;
-    push_cut(text, is_cut_behind(column, line))
+    push_cut(text, is_cut_after(column, line))
 }
 
 fn push_source_line(

@@ -5,7 +5,7 @@ use crate::style::Style;
 use crate::warnings::MOST_TOLD;
 use lx_check::Finding;
 use lx_spec::Code;
-use lx_warnings::{Warning, Warnings, warnings_beside};
+use lx_warnings::{Warning, Warnings, warnings_of_rejected};
 use std::alloc::{AllocError, Global};
 
 /// An entry after the first error of a text that is rejected.
@@ -75,7 +75,7 @@ fn warnings_of_refused(
         });
     }
     let lines = error_lines(alloc, first, more)?;
-    warnings_beside(alloc, source, &lines, &style.asked, MOST_TOLD)
+    warnings_of_rejected(alloc, source, &lines, &style.asked, MOST_TOLD)
 }
 
 // Adds the warnings from number `from` on that come before a line. Returns the number of the first one after them.

@@ -3,10 +3,10 @@
 use lx_check::Finding;
 use lx_diagnose::causes::LineCause;
 use lx_diagnose::scan::part;
-use lx_diagnose::{Cause, Diagnosis, Place, diagnose};
+use lx_diagnose::{Cause, Diagnosis, TextPlace, diagnose};
 use std::alloc::{AllocError, Global};
 
-fn is_same_place(place: Option<Place>, other: Option<Place>) -> bool {
+fn is_same_place(place: Option<TextPlace>, other: Option<TextPlace>) -> bool {
     match (place, other) {
         (Some(place), Some(other)) => place.line == other.line && place.column == other.column,
         _ => false,
@@ -37,7 +37,7 @@ fn is_among(source: &[u8], told: &[Diagnosis], diagnosis: &Diagnosis) -> bool {
 }
 
 // Returns true if a finding says something that wasn't reported yet. Then notes it as reported.
-fn is_new(
+fn note_as_new(
     alloc: Global,
     source: &[u8],
     told: &mut Vec<Diagnosis>,
@@ -71,13 +71,13 @@ pub(crate) fn new_findings(
     more: &[Finding],
 ) -> Result<Vec<Finding>, AllocError> {
     let mut told = Vec::new(alloc);
-    is_new(alloc, source, &mut told, first)?;
+    note_as_new(alloc, source, &mut told, first)?;
     let mut new = Vec::new(alloc);
     if are_tables(&told) {
         return Ok(new);
     }
     for finding in more {
-        if is_new(alloc, source, &mut told, *finding)? {
+        if note_as_new(alloc, source, &mut told, *finding)? {
             new.push(*finding)?;
         }
     }

@@ -4,7 +4,7 @@ ghost use Rattle.std.specs.Prelude.{◌≡◌, ◌++◌, OnOk, length};
 ghost use Rattle.lx_report.specs.Sarif as specs;
 
 use crate::bytes::{push, push_numbered, push_shown, push_string_of_shown, push_uri};
-use crate::finding::{Finding, Place, Severity};
+use crate::finding::{Finding, ReportPlace, Severity};
 use std::alloc::AllocError;
 
 /// Appends the part before the results. `version` is the program's.
@@ -86,20 +86,20 @@ fn push_columns(text: &mut Vec<u8>, column: u64, behind: u64) -> Result<(), Allo
 }
 
 // Returns the column after a place.
-fn behind(place: Place) -> u64
+fn column_after(place: ReportPlace) -> u64
     ensures { result ≡ specs.behind place }
 {
     place.column.saturating_add(place.width.max(1))
 }
 
-fn push_region(text: &mut Vec<u8>, place: Place) -> Result<(), AllocError>
+fn push_region(text: &mut Vec<u8>, place: ReportPlace) -> Result<(), AllocError>
     ensures { OnOk result (text.new.items ≡ text.old.items ++ specs.region place) }
 {
     if place.line == 0 {
         return Ok(());
     }
     push_numbered(text, b",\"region\":{\"startLine\":", place.line)?;
-    push_columns(text, place.column, behind(place))?;
+    push_columns(text, place.column, column_after(place))?;
     push(text, b"}")
 }
 

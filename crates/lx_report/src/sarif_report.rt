@@ -5,8 +5,8 @@ use crate::pieces::{place_of, push};
 use crate::saying::Said;
 use crate::style::Style;
 use crate::warnings::warnings_in;
-use crate::{Finding, Place, Severity, push_result, push_sarif_end, push_sarif_start};
-use lx_check::{Accepted, Finding as Fault, Report};
+use crate::{Finding, ReportPlace, Severity, push_result, push_sarif_end, push_sarif_start};
+use lx_check::{Accepted, Report, TextFault};
 use lx_diagnose::{code_word, diagnose, name_of as name_of_cause, sentence, words_of};
 use lx_spec::SpecFault;
 use lx_warnings::{Warning, name_of};
@@ -34,7 +34,7 @@ fn push_fault_result(
 fn push_large_result(text: &mut Vec<u8>, style: &Style<'_>, code: &str) -> Result<(), AllocError> {
     let finding = Finding {
         severity: Severity::Error,
-        place: Place {
+        place: ReportPlace {
             line: 0,
             column: 0,
             width: 0,
@@ -51,12 +51,12 @@ fn push_error_result(
     text: &mut Vec<u8>,
     style: &Style<'_>,
     source: &[u8],
-    fault: Fault,
+    fault: TextFault,
 ) -> Result<(), AllocError> {
     match fault {
-        Fault::Specification(fault) => push_fault_result(alloc, text, style, source, fault),
-        Fault::TooManyPositions => push_large_result(text, style, "E30"),
-        Fault::TooManySets => push_large_result(text, style, "E31"),
+        TextFault::Specification(fault) => push_fault_result(alloc, text, style, source, fault),
+        TextFault::TooManyPositions => push_large_result(text, style, "E30"),
+        TextFault::TooManySets => push_large_result(text, style, "E31"),
     }
 }
 
@@ -100,7 +100,7 @@ fn push_error_results(
     text: &mut Vec<u8>,
     style: &Style<'_>,
     source: &[u8],
-    faults: &[Fault],
+    faults: &[TextFault],
 ) -> Result<usize, AllocError> {
     let Some((first, more)) = faults.split_first() else {
         return Ok(0);

@@ -10,7 +10,7 @@ use crate::ordering::{Entry, Rest, rest_of};
 use crate::pieces::{push_count, push_shown_and};
 use crate::style::Style;
 use crate::warnings::{push_accepted, push_warning};
-use lx_check::{Finding, Report};
+use lx_check::{Report, TextFault};
 use std::alloc::{AllocError, Global};
 
 /// The output on a specification.
@@ -93,8 +93,8 @@ fn push_rest(
     text: &mut Vec<u8>,
     style: &Style<'_>,
     source: &[u8],
-    first: Finding,
-    more: &[Finding],
+    first: TextFault,
+    more: &[TextFault],
 ) -> Result<usize, AllocError>
     ensures { IfOk result (λ _. Extends text.old.items text.new.items) }
 {
@@ -111,7 +111,7 @@ fn push_errors(
     text: &mut Vec<u8>,
     style: &Style<'_>,
     source: &[u8],
-    findings: &[Finding],
+    findings: &[TextFault],
 ) -> Result<usize, AllocError>
     ensures { IfOk result
         (λ _. text.old.items ≡ [] → TellsFirst style.now.file.now findings.now text.new.items) }

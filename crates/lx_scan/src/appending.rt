@@ -98,7 +98,7 @@ pub(crate) fn append_runs(
     ensures most { OnOk result (length items.new ≤ most) }
 {
     let mut place = from;
-    let Some(joined) = tables.joined() else {
+    let Some(joined) = tables.joined_table() else {
         return Ok(Reached::at(place));
     };
     while place.offset < text.len() && items.len() < most {

@@ -87,7 +87,7 @@ pub(crate) fn find_ends(
     let entries = joined.entries.as_slice();
     let first = text[place.offset];
     let class = tables.class(first);
-    let begun = tables.begun(place.condition, place.at_line_begin, class, first == b'\n');
+    let begun = tables.first_state(place.condition, place.at_line_begin, class, first == b'\n');
     let mut row = tables.row(begun);
     let last = columns[b'\n' as usize];
     let mut line = place.line + newline(columns[first as usize], last);

@@ -19,7 +19,7 @@ const LONG: usize = 64;
 /// The result of a run: the last accepted rule with a token, and the number of bytes after which it was accepted. Also the position after which none
 /// was accepted, with the state there.
 #[derive(Clone, Copy)]
-struct Found {
+struct LongestMatch {
     last: Option<(u16, usize)>,
     since: usize,
     state: State,
@@ -28,7 +28,7 @@ struct Found {
 // Notes the rule that is accepted in a state before byte `at`, after `read` bytes. If none is accepted, it writes nothing: a returned value would be
 // copied at each byte.
 #[inline(always)]
-fn accept_at(tables: &Tables, state: State, at: usize, read: usize, found: &mut Found)
+fn accept_at(tables: &Tables, state: State, at: usize, read: usize, found: &mut LongestMatch)
     requires state { state.0 < state_count tables.now.machine }
     requires some { 0 < read }
     ensures last { found.new.last
@@ -50,7 +50,12 @@ fn accept_at(tables: &Tables, state: State, at: usize, read: usize, found: &mut 
 // Reads the text from a place on, until a step is missing or nothing more is accepted. Returns the result, and the byte before which it stopped.
 #[tactic(auto, using(crate::proofs::Failing::run_steps))]
 #[inline(never)]
-fn run_from(tables: &Tables, text: &[u8], place: Place, memory: &ScanMemory) -> (Found, usize)
+fn run_from(
+    tables: &Tables,
+    text: &[u8],
+    place: Place,
+    memory: &ScanMemory,
+) -> (LongestMatch, usize)
     requires known { place.condition < length tables.now.machine.starts }
     requires within { place.offset ≤ length text.now }
     requires memory { IsMemoryOf tables.now text.now memory.now }
@@ -64,7 +69,7 @@ fn run_from(tables: &Tables, text: &[u8], place: Place, memory: &ScanMemory) -> 
     ensures table { IsTable tables.now }
 {
     let mut state = tables.start(place.condition, place.at_line_begin);
-    let mut found = Found {
+    let mut found = LongestMatch {
         last: None,
         since: place.offset,
         state,
@@ -118,7 +123,7 @@ fn keep_run(
 
 // Remembers a failed lookahead if it was long.
 #[inline(always)]
-fn remember(tables: &Tables, text: &[u8], found: Found, end: usize, memory: &mut ScanMemory)
+fn remember(tables: &Tables, text: &[u8], found: LongestMatch, end: usize, memory: &mut ScanMemory)
     requires table { IsTable tables.now }
     requires state { found.state.0 < state_count tables.now.machine }
     requires order { found.since ≤ end }

@@ -151,7 +151,7 @@ impl ScanMemory {
     }
 
     // Makes room for the further states, unless an allocation fails.
-    fn make_room_beside(&mut self)
+    fn make_room_for_further(&mut self)
         ensures { (table : Table) (text : List ℕ) → IsMemoryOf table text self.old
             → IsMemoryOf table text self.new }
     {
@@ -161,11 +161,11 @@ impl ScanMemory {
     }
 
     // Keeps a state among the further ones, if the one that is kept there is for a position before `from`.
-    fn keep_beside(&mut self, place: usize, state: State, from: usize)
+    fn keep_further(&mut self, place: usize, state: State, from: usize)
         ensures { (table : Table) (text : List ℕ) → IsMemoryOf table text self.old
             → IsFailed table.machine (drop place text) state.0 → IsMemoryOf table text self.new }
     {
-        self.make_room_beside();
+        self.make_room_for_further();
         let index = index_of(place, state);
         if index < self.others.len() && is_before(self.others[index], from) {
             self.others[index] = Some(FailedState {
@@ -188,7 +188,7 @@ impl ScanMemory {
         let number = state.0 as u16 + 1;
         match slot_for(&self.marks, place, number) {
             Some(slot) => self.marks[slot] = number,
-            None => self.keep_beside(place, state, from),
+            None => self.keep_further(place, state, from),
         }
     }
 }

@@ -88,7 +88,7 @@ fn match_by(tables: &Tables, text: &[u8], place: Place, memory: &mut ScanMemory)
 }
 
 // Returns the place after a match. It is at line begin exactly if the match's last byte is a newline.
-fn place_behind(tables: &Tables, rest: &[u8], place: Place, found: Match) -> Place
+fn place_after(tables: &Tables, rest: &[u8], place: Place, found: Match) -> Place
     requires some { 0 < found.len }
     requires within { found.len ≤ length rest.now }
     requires rule { ForSome found.rule (λ i. i < length tables.now.rules) }
@@ -125,7 +125,7 @@ pub fn next_match(tables: &Tables, text: &[u8], place: Place) -> Option<(Match, 
     }
     let rest = &text[place.offset..];
     let found = match_at(tables, rest, place);
-    let next = place_behind(tables, rest, place, found);
+    let next = place_after(tables, rest, place, found);
     Some((found, next))
 }
 
@@ -149,7 +149,7 @@ pub(crate) fn next_match_by(
         return None;
     }
     let found = match_by(tables, text, place, memory);
-    let next = place_behind(tables, &text[place.offset..], place, found);
+    let next = place_after(tables, &text[place.offset..], place, found);
     Some((found, next))
 }
 

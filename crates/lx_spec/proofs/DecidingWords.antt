@@ -6,7 +6,7 @@ use Rattle.lx_ere.proofs.Deciding.{along}
 use Rattle.lx_rules.specs.Identifiers.{is_word_byte}
 use Rattle.lx_spec.specs.Bytes.{is_blank, begins_with, behind_run}
 use Rattle.lx_spec.specs.Constants.{enclosed_at, behind_quote, closed_byte, closed_constant, constant_at}
-use Rattle.lx_spec.specs.ActionWords.{Word, Piece, ended, passed, word, no_word, sign_of, word_or_none, constant_or_none, behind_comment, passed_or_none, is_no_newline, comment_at, letters_piece, sign_piece, piece_at, AreWords, none, behind_passed, behind_word}
+use Rattle.lx_spec.specs.ActionWords.{Word, WordConstruct, ended, passed, word, no_word, sign_of, word_or_none, constant_or_none, behind_comment, passed_or_none, is_no_newline, comment_at, letters_piece, sign_piece, piece_at, AreWords, none, behind_passed, behind_word}
 use Rattle.lx_spec.proofs.EscapeSteps.{LeavesAtMost, either as chosen, behind-escape}
 use Rattle.lx_spec.proofs.Words.{behind-more}
 use Rattle.lx_spec.proofs.WordSteps.{in_passed, in_word, in_none}
@@ -14,13 +14,13 @@ use Rattle.lx_spec.proofs.WordSteps.{in_passed, in_word, in_none}
 -- ---- the text after a piece
 
 -- fewer than n bytes follow the piece
-abbrev LeavesBelow : ℕ → Piece → Type 0
+abbrev LeavesBelow : ℕ → WordConstruct → Type 0
 LeavesBelow n ended = Unit {0}
 LeavesBelow n (passed rest) = length rest < n
 LeavesBelow n (word w rest) = length rest < n
 LeavesBelow n no_word = Unit {0}
 
-either : (n : ℕ) (b : Bool) (x y : Piece) → (b ≡ true → LeavesBelow n x) → LeavesBelow n y → LeavesBelow n (cond b x y)
+either : (n : ℕ) (b : Bool) (x y : WordConstruct) → (b ≡ true → LeavesBelow n x) → LeavesBelow n y → LeavesBelow n (cond b x y)
 either n true x y h g = h refl
 either n false x y h g = g
 
@@ -94,7 +94,7 @@ piece_below (c ∷ text) =
 
 -- ---- the words of a text
 
-by_piece : (text : List ℕ) (p : Piece) → piece_at text ≡ p → LeavesBelow (length text) p → ((rest : List ℕ) → length rest < length text → Dec ((ws : List Word) × AreWords rest ws)) → Dec ((ws : List Word) × AreWords text ws)
+by_piece : (text : List ℕ) (p : WordConstruct) → piece_at text ≡ p → LeavesBelow (length text) p → ((rest : List ℕ) → length rest < length text → Dec ((ws : List Word) × AreWords rest ws)) → Dec ((ws : List Word) × AreWords text ws)
 by_piece text ended e less further = yes ([], none text e)
 by_piece text (passed rest) e less further = along (λ h. (h.0, behind_passed text rest h.0 e h.1)) (λ h. (h.0, in_passed text rest h.0 h.1 e)) (further rest less)
 by_piece text (word w rest) e less further = along (λ h. (w ∷ h.0, behind_word text rest w h.0 e h.1)) (λ h. let v = in_word text rest w h.0 h.1 e in (v.0, v.1)) (further rest less)

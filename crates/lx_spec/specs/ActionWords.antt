@@ -17,13 +17,13 @@ pub data Word : Type 0 where
   close_group : Word
 
 -- the front of a text
-pub data Piece : Type 0 where
-  ended : Piece
+pub data WordConstruct : Type 0 where
+  ended : WordConstruct
   -- a blank, a line's end or a comment, and the text after it
-  passed : (rest : List ℕ) → Piece
+  passed : (rest : List ℕ) → WordConstruct
   -- a word, and the text after it
-  word : (w : Word) (rest : List ℕ) → Piece
-  no_word : Piece
+  word : (w : Word) (rest : List ℕ) → WordConstruct
+  no_word : WordConstruct
 
 -- the word of one byte
 abbrev pub sign_of : ℕ → Option Word
@@ -36,11 +36,11 @@ sign_of c =
     else if nat_eq c 41 then Some close_group
     else None
 
-abbrev pub word_or_none : Option Word → List ℕ → Piece
+abbrev pub word_or_none : Option Word → List ℕ → WordConstruct
 word_or_none None rest = no_word
 word_or_none (Some w) rest = word w rest
 
-abbrev pub constant_or_none : Option (ℕ × List ℕ) → Piece
+abbrev pub constant_or_none : Option (ℕ × List ℕ) → WordConstruct
 constant_or_none None = no_word
 constant_or_none (Some (b, rest)) = word (byte b) rest
 
@@ -49,7 +49,7 @@ abbrev pub behind_comment : List ℕ → Option (List ℕ)
 behind_comment [] = None
 behind_comment (c ∷ text) = if begins_with 42 47 (c ∷ text) then Some (drop 1 text) else behind_comment text
 
-abbrev pub passed_or_none : Option (List ℕ) → Piece
+abbrev pub passed_or_none : Option (List ℕ) → WordConstruct
 passed_or_none None = no_word
 passed_or_none (Some rest) = passed rest
 
@@ -57,19 +57,19 @@ abbrev pub is_no_newline : ℕ → Bool
 is_no_newline c = not (nat_eq c 10)
 
 -- a comment over lines, from after its `/` on
-abbrev pub comment_at : List ℕ → Piece
+abbrev pub comment_at : List ℕ → WordConstruct
 comment_at [] = no_word
 comment_at (c ∷ text) = passed_or_none (behind_comment text)
 
-abbrev pub letters_piece : List ℕ → Piece
+abbrev pub letters_piece : List ℕ → WordConstruct
 letters_piece text = word (letters (run is_word_byte text)) (behind_run is_word_byte text)
 
 -- a constant, or a word of one byte
-abbrev pub sign_piece : ℕ → List ℕ → Piece
+abbrev pub sign_piece : ℕ → List ℕ → WordConstruct
 sign_piece c text = if nat_eq c 39 then constant_or_none (constant_at text) else word_or_none (sign_of c) text
 
 -- the first form that fits the front of the text
-abbrev pub piece_at : List ℕ → Piece
+abbrev pub piece_at : List ℕ → WordConstruct
 piece_at [] = ended
 piece_at (c ∷ text) =
     if is_blank c || nat_eq c 10 then passed text

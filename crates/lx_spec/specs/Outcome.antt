@@ -10,7 +10,7 @@ use Rattle.lx_rules.specs.declared.rule.Kind.TheVariants as kind
 use Rattle.lx_rules.specs.declared.rule.Step.{Step}
 use Rattle.lx_rules.specs.declared.rule.Step.TheVariants as step
 use Rattle.lx_spec.specs.Sections.{RawDefinition, RawRule}
-use Rattle.lx_spec.specs.RuleLines.{Prefix, absent, unclosed, listed}
+use Rattle.lx_spec.specs.RuleLines.{RulePrefix, absent, unclosed, listed}
 use Rattle.lx_spec.specs.Actions.{Value, name, number, Statement, nothing, echo, begin, return, Action, shared, own, IsAction}
 use Rattle.lx_spec.specs.Dictionary.{row_of, mentions_of, unreadable_marks}
 use Rattle.lx_spec.specs.Graph.{IsMention, is_marked}
@@ -32,7 +32,7 @@ contains_number numbers c = list_any (λ k. nat_eq k c) numbers
 abbrev pub named_conditions : List StartCondition → List (List ℕ) → List ℕ
 named_conditions start_conditions names = filter (contains_number (map (number_or_first start_conditions) names)) (numbers_from 0 (length start_conditions))
 
-abbrev pub conditions_of : List StartCondition → Prefix → Option (List ℕ)
+abbrev pub conditions_of : List StartCondition → RulePrefix → Option (List ℕ)
 conditions_of start_conditions absent = None
 conditions_of start_conditions unclosed = None
 conditions_of start_conditions (listed text) = Some (named_conditions start_conditions (fields_of text))

@@ -9,7 +9,7 @@ use Rattle.lx_spec.specs.Blocks.{start, with_line, is_closed}
 use Rattle.lx_spec.specs.Faults.{fault, out_of_memory}
 use Rattle.lx_spec.specs.Lines.{line_of, skipped, opens_comment, opens_group, rules_begin, declares, defines, no_form}
 use Rattle.lx_spec.specs.RuleLines as rule_line
-use Rattle.lx_spec.specs.RuleLines.{Prefix, rule_line_of}
+use Rattle.lx_spec.specs.RuleLines.{RulePrefix, rule_line_of}
 use Rattle.lx_spec.specs.declared.block.Count.{Count}
 use Rattle.lx_spec.specs.declared.fault.Code.TheVariants as code
 use Rattle.lx_spec.specs.declared.fault.SpecFault.{SpecFault}
@@ -17,20 +17,20 @@ use Rattle.lx_spec.specs.declared.fault.SpecFault.{SpecFault}
 -- a rule as the text has it: the line on which it begins, its prefix, its pattern and its action
 pub record RawRule : Type 0 where
   pub line : ℕ
-  pub prefix : Prefix
+  pub prefix : RulePrefix
   pub pattern : List ℕ
   pub action : List ℕ
 
 -- the place of a line
-pub data Place : Type 0 where
+pub data LineContext : Type 0 where
   -- by itself in the first section, or in a comment or a group there that began at a line
-  definitions : Place
-  comment : (since : ℕ) → Place
-  group : (since : ℕ) → Place
+  definitions : LineContext
+  comment : (since : ℕ) → LineContext
+  group : (since : ℕ) → LineContext
   -- by itself in the second section, in a group there, or in the action of a rule, with the braces counted before it
-  rules : Place
-  rules_group : (since : ℕ) → Place
-  action : (rule : RawRule) (count : Count) → Place
+  rules : LineContext
+  rules_group : (since : ℕ) → LineContext
+  action : (rule : RawRule) (count : Count) → LineContext
 
 -- the entries of the sections, in order, each with its line
 pub data Entry : Type 0 where
@@ -47,7 +47,7 @@ abbrev pub longer : RawRule → List ℕ → RawRule
 longer raw line = record raw { action = raw.action ++ 10 ∷ line }
 
 -- the entries from line n on
-abbrev pub entries : Place → ℕ → List (List ℕ) → List Entry
+abbrev pub entries : LineContext → ℕ → List (List ℕ) → List Entry
 entries definitions n [] = endless ∷ []
 entries (comment since) n [] = unclosed since ∷ []
 entries (group since) n [] = unclosed since ∷ []
@@ -141,7 +141,7 @@ abbrev pub only_initial : ParsedSections
 only_initial = record { start_conditions = record { name = 73 ∷ 78 ∷ 73 ∷ 84 ∷ 73 ∷ 65 ∷ 76 ∷ []; exclusive = false } ∷ []; definitions = []; rules = [] }
 
 -- the contents of the lines from number n on, after those before
-abbrev pub sections_behind : ParsedSections → Place → ℕ → List (List ℕ) → Result ParsedSections SpecFault
+abbrev pub sections_behind : ParsedSections → LineContext → ℕ → List (List ℕ) → Result ParsedSections SpecFault
 sections_behind before place n rest = with_entries before (entries place n rest)
 
 -- the contents of a text's sections, or their first fault in the order of the text
@@ -154,15 +154,15 @@ Gives view (Ok x) read = read ≡ Ok (view x)
 Gives view (Err f) read = f ≢ out_of_memory → read ≡ Err f
 
 -- the contents after a line was taken: no place follows the line that ends the rules
-abbrev pub continued : Option Place → ParsedSections → ℕ → List (List ℕ) → Result ParsedSections SpecFault
+abbrev pub continued : Option LineContext → ParsedSections → ℕ → List (List ℕ) → Result ParsedSections SpecFault
 continued None before n rest = Ok before
 continued (Some place) before n rest = sections_behind before place n rest
 
 -- The result of taking a line, seen by view, continues to that of reading, unless memory ran out.
-abbrev pub Goes : {X : Type 0} → (X → ParsedSections × Option Place) → ℕ → List (List ℕ) → Result X SpecFault → Result ParsedSections SpecFault → Type 0
+abbrev pub Goes : {X : Type 0} → (X → ParsedSections × Option LineContext) → ℕ → List (List ℕ) → Result X SpecFault → Result ParsedSections SpecFault → Type 0
 Goes view n rest (Ok x) read = read ≡ continued (view x).1 (view x).0 (n + 1) rest
 Goes view n rest (Err f) read = f ≢ out_of_memory → read ≡ Err f
 
 -- Taking line n at a place gave the result of reading from there, for any lines that follow.
-abbrev pub TakesLine : {X : Type 0} → (X → ParsedSections × Option Place) → ParsedSections → Place → ℕ → List ℕ → Result X SpecFault → Type 0
+abbrev pub TakesLine : {X : Type 0} → (X → ParsedSections × Option LineContext) → ParsedSections → LineContext → ℕ → List ℕ → Result X SpecFault → Type 0
 TakesLine view before place n line result = (rest : List (List ℕ)) → Goes view n rest result (sections_behind before place n (line ∷ rest))

@@ -9,7 +9,7 @@ use Rattle.lx_rules.specs.Plain.{StartCondition}
 use Rattle.lx_spec.specs.Faults.{fault, out_of_memory}
 use Rattle.lx_spec.specs.First.{IsFirst, HoldsOfNone}
 use Rattle.lx_spec.specs.Sections.{RawDefinition, RawRule, ParsedSections}
-use Rattle.lx_spec.specs.RuleLines.{Prefix, absent, unclosed, listed}
+use Rattle.lx_spec.specs.RuleLines.{RulePrefix, absent, unclosed, listed}
 use Rattle.lx_spec.specs.Actions.{Statement, Action, shared, own, IsAction, nothing, echo, begin, return, is_condition_name}
 use Rattle.lx_spec.specs.Dictionary.{row_of, all_defined, mentions_of, unreadable_marks, incomplete_marks}
 use Rattle.lx_spec.specs.Graph.{IsMention, Leads, Follow}
@@ -30,13 +30,13 @@ fields_of [] = [] ∷ []
 fields_of (c ∷ text) = if nat_eq c 44 then [] ∷ fields_of text else onto_field c (fields_of text)
 
 -- the names that a prefix lists
-abbrev pub fields_in : Prefix → List (List ℕ)
+abbrev pub fields_in : RulePrefix → List (List ℕ)
 fields_in absent = []
 fields_in unclosed = []
 fields_in (listed text) = fields_of text
 
 -- nothing, or a list of names
-abbrev pub is_prefix : Prefix → Bool
+abbrev pub is_prefix : RulePrefix → Bool
 is_prefix absent = true
 is_prefix unclosed = false
 is_prefix (listed text) = list_all is_condition_name (fields_of text)

@@ -107,7 +107,7 @@ fn condition_of(word: Word<'_>) -> Option<&[u8]>
 }
 
 // Returns the only word of a group whose parenthesis is open.
-fn in_group<'t>(words: &[Word<'t>]) -> Option<Word<'t>>
+fn word_of_group<'t>(words: &[Word<'t>]) -> Option<Word<'t>>
     ensures value { option_map (λ w. (word_view w, words_view (drop 2 words.now))) result
         ≡ plain.in_group (words_view words.now) }
     ensures within { OnSome result (2 ≤ length words.now) }
@@ -134,7 +134,7 @@ fn operand_at<'t>(words: &[Word<'t>]) -> Option<(Word<'t>, usize)>
         return None;
     };
     match word {
-        Word::OpenGroup => match in_group(rest) {
+        Word::OpenGroup => match word_of_group(rest) {
             Some(inner) => Some((inner, 3)),
             None => None,
         },
@@ -143,7 +143,7 @@ fn operand_at<'t>(words: &[Word<'t>]) -> Option<(Word<'t>, usize)>
 }
 
 // Returns the statement, if a semicolon follows.
-fn ended<'t>(statement: Statement<'t>, words: &[Word]) -> Option<Statement<'t>>
+fn end_statement<'t>(statement: Statement<'t>, words: &[Word]) -> Option<Statement<'t>>
     ensures value { option_map (λ s. (statement_view s, words_view (drop 1 words.now))) result
         ≡ plain.ended (statement_view statement.entry) (words_view words.now) }
     ensures within { OnSome result (1 ≤ length words.now) }
@@ -157,24 +157,24 @@ fn ended<'t>(statement: Statement<'t>, words: &[Word]) -> Option<Statement<'t>>
     }
 }
 
-fn returned<'t>(word: Word<'t>, words: &[Word]) -> Option<Statement<'t>>
+fn return_statement<'t>(word: Word<'t>, words: &[Word]) -> Option<Statement<'t>>
     ensures value { option_map (λ s. (statement_view s, words_view (drop 1 words.now))) result
         ≡ plain.returned (plain.value_of (word_view word.entry)) (words_view words.now) }
     ensures within { OnSome result (1 ≤ length words.now) }
 {
     match value_of(word) {
-        Some(value) => ended(Statement::Return(value), words),
+        Some(value) => end_statement(Statement::Return(value), words),
         None => None,
     }
 }
 
-fn begun<'t>(word: Word<'t>, words: &[Word]) -> Option<Statement<'t>>
+fn begin_statement<'t>(word: Word<'t>, words: &[Word]) -> Option<Statement<'t>>
     ensures value { option_map (λ s. (statement_view s, words_view (drop 1 words.now))) result
         ≡ plain.begun (plain.condition_of (word_view word.entry)) (words_view words.now) }
     ensures within { OnSome result (1 ≤ length words.now) }
 {
     match condition_of(word) {
-        Some(name) => ended(Statement::Begin(name), words),
+        Some(name) => end_statement(Statement::Begin(name), words),
         None => None,
     }
 }
@@ -188,7 +188,7 @@ fn return_at<'t>(words: &[Word<'t>]) -> Option<(Statement<'t>, usize)>
     let Some((word, n)) = operand_at(words) else {
         return None;
     };
-    match returned(word, &words[n..]) {
+    match return_statement(word, &words[n..]) {
         Some(statement) => Some((statement, n + 1)),
         None => None,
     }
@@ -203,7 +203,7 @@ fn begin_at<'t>(words: &[Word<'t>]) -> Option<(Statement<'t>, usize)>
     let Some((word, n)) = operand_at(words) else {
         return None;
     };
-    match begun(word, &words[n..]) {
+    match begin_statement(word, &words[n..]) {
         Some(statement) => Some((statement, n + 1)),
         None => None,
     }
@@ -218,7 +218,7 @@ fn letters_at<'t>(text: &[u8], words: &[Word<'t>]) -> Option<(Statement<'t>, usi
     if text == b"return".as_slice() {
         return_at(words)
     } else if text == b"ECHO".as_slice() {
-        match ended(Statement::Echo, words) {
+        match end_statement(Statement::Echo, words) {
             Some(statement) => Some((statement, 1)),
             None => None,
         }

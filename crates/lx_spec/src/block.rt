@@ -23,7 +23,7 @@ pub struct Count {
     pub mode: Mode,
 }
 
-fn behind_code(c: u8) -> Mode
+fn mode_after_code(c: u8) -> Mode
     ensures { result ≡ plain.behind_code c }
 {
     match c {
@@ -39,11 +39,11 @@ pub fn next_mode(mode: Mode, c: u8) -> Mode
     ensures { result ≡ plain.next_mode mode c }
 {
     match mode {
-        Mode::Code => behind_code(c),
+        Mode::Code => mode_after_code(c),
         Mode::Slash => match c {
             b'*' => Mode::Comment,
             b'/' => Mode::LineComment,
-            _ => behind_code(c),
+            _ => mode_after_code(c),
         },
         Mode::Comment => if c == b'*' { Mode::Star } else { Mode::Comment },
         Mode::Star => match c {
@@ -73,7 +73,7 @@ pub fn counts(mode: Mode) -> bool
 }
 
 /// Returns the mode after the end of a line.
-pub fn behind_line(mode: Mode) -> Mode
+pub fn mode_after_line(mode: Mode) -> Mode
     ensures { result ≡ plain.behind_line mode }
 {
     match mode {
@@ -116,7 +116,7 @@ pub fn with_line(count: Count, line: &[u8]) -> Count
     Count {
         opened: so_far.opened,
         closed: so_far.closed,
-        mode: behind_line(so_far.mode),
+        mode: mode_after_line(so_far.mode),
     }
 }
 

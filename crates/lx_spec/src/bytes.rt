@@ -58,7 +58,7 @@ pub(crate) fn alphanumeric_len(text: &[u8]) -> usize
 }
 
 #[tactic(auto, using(crate::proofs::Words::trim_steps))]
-pub(crate) fn trimmed(text: &[u8]) -> &[u8]
+pub(crate) fn trim(text: &[u8]) -> &[u8]
     ensures { result.now ≡ bytes.trimmed text.now }
 {
     let mut front = text;

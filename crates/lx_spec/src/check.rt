@@ -18,7 +18,7 @@ use crate::dictionary::push_row;
 use crate::fault::{Code, SpecFault};
 use crate::parsed_sections::{RawRule, StartCondition};
 use crate::prefix::{are_condition_names, are_declared, condition_number, read_fields};
-use crate::rule_line::Prefix;
+use crate::rule_line::RulePrefix;
 use crate::symbol_table::SymbolTable;
 use lx_ere::expr::Pattern;
 use lx_ere::fault::EreFault;
@@ -38,12 +38,12 @@ pub(crate) fn read_prefix<'a>(
         (λ names. texts_of names.items ≡ fields_in (raw_rule_view rule.now).prefix) }
 {
     match rule.prefix {
-        Prefix::Absent => Ok(Vec::new(alloc)),
-        Prefix::Unclosed => Err(SpecFault {
+        RulePrefix::Absent => Ok(Vec::new(alloc)),
+        RulePrefix::Unclosed => Err(SpecFault {
             code: Code::NoReading,
             line: rule.line,
         }),
-        Prefix::Listed(text) => {
+        RulePrefix::Listed(text) => {
             let names = read_fields(alloc, text)?;
             if are_condition_names(&names) {
                 Ok(names)

@@ -45,7 +45,7 @@ fn enclosed_at(text: &[u8]) -> Option<(u8, &[u8])>
     }
 }
 
-fn behind_quote(text: &[u8]) -> Option<&[u8]>
+fn skip_quote(text: &[u8]) -> Option<&[u8]>
     ensures value { option_map (λ r. r.now) result ≡ plain.behind_quote text.now }
     ensures less { IfSome result (λ r. length r.now ≤ length text.now) }
 {
@@ -63,7 +63,7 @@ pub(crate) fn constant_at(text: &[u8]) -> Option<(u8, &[u8])>
     let Some((byte, behind)) = enclosed_at(text) else {
         return None;
     };
-    match behind_quote(behind) {
+    match skip_quote(behind) {
         Some(rest) => Some((byte, rest)),
         None => None,
     }

@@ -8,9 +8,7 @@ ghost use Rattle.lx_spec.specs.Bytes as bytes;
 ghost use Rattle.lx_spec.specs.Lines as plain;
 ghost use Rattle.lx_spec.specs.views.Lines.{line_view};
 
-use crate::bytes::{
-    alphanumeric_len, begins_with, blanks_len, has_pair, is_blank, trimmed, word_len,
-};
+use crate::bytes::{alphanumeric_len, begins_with, blanks_len, has_pair, is_blank, trim, word_len};
 use lx_rules::identifier::{is_digit, is_identifier};
 
 /// The form of a line of the definitions section. The names of conditions are in `names` with blanks between them.
@@ -123,7 +121,7 @@ fn are_digits(text: &[u8]) -> bool
 fn size_line<'a>(text: &[u8]) -> Line<'a>
     ensures { line_view result ≡ plain.size_line text.now }
 {
-    let number = trimmed(&text[blanks_len(text)..]);
+    let number = trim(&text[blanks_len(text)..]);
     plain_line(begins_blank(text) && !number.is_empty() && are_digits(number))
 }
 
@@ -186,7 +184,7 @@ fn definition_line<'a>(name: &'a [u8], text: &'a [u8]) -> Line<'a>
     if is_identifier(name) && begins_blank(text) && !rest.is_empty() {
         Line::Definition {
             name,
-            substitute: trimmed(rest),
+            substitute: trim(rest),
         }
     } else {
         Line::NoForm

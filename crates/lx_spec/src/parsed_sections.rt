@@ -4,7 +4,7 @@ ghost use Rattle.std.specs.Prelude.{◌<◌, ◌≤◌, length};
 ghost use Rattle.lx_rules.specs.Limits.{max_definitions, max_rules, max_start_conditions};
 
 use crate::block::Count;
-use crate::rule_line::Prefix;
+use crate::rule_line::RulePrefix;
 
 /// A start condition.
 #[derive(Drop)]
@@ -24,7 +24,7 @@ pub struct RawDefinition<'a> {
 #[derive(Drop)]
 pub struct RawRule<'a> {
     pub line: u32,
-    pub prefix: Prefix<'a>,
+    pub prefix: RulePrefix<'a>,
     pub pattern: &'a [u8],
     pub action: Vec<u8>,
     pub ghost counted: { 0 < line },

@@ -38,7 +38,7 @@ fn row_of_all(
 }
 
 // Reverses each mention.
-fn turned(alloc: Global, mentions: &[Mention]) -> Result<Vec<Mention>, AllocError>
+fn reverse(alloc: Global, mentions: &[Mention]) -> Result<Vec<Mention>, AllocError>
     ensures { IfOk result (λ v. v.items ≡ map (λ m. mention_of m.to m.from) mentions.now) }
 {
     let mut turned = Vec::new(alloc);
@@ -79,7 +79,7 @@ fn reached_of(
         IsTrue (is_marked marks.items i) ↔ IsReached (map raw_definition_view index.now.definitions.now) (trees_view dictionary.now.trees.items) (patterns_in (map resolved_view resolved.now)) i) }
 {
     let row = row_of_all(alloc, index, resolved)?;
-    let turned = turned(alloc, &dictionary.mentions)?;
+    let turned = reverse(alloc, &dictionary.mentions)?;
     let marks = marks_at(alloc, index.definitions.len(), &row)?;
     spread(alloc, &turned, marks)
 }

@@ -10,7 +10,7 @@ use lx_ere::pattern_end;
 
 /// The text before a pattern.
 #[derive(Drop)]
-pub enum Prefix<'a> {
+pub enum RulePrefix<'a> {
     /// No prefix.
     Absent,
     /// A `<` without a `>` on its line.
@@ -30,7 +30,7 @@ pub enum RuleLine<'a> {
     RulesEnd,
     /// A rule begins. The text of its action begins here.
     BeginsRule {
-        prefix: Prefix<'a>,
+        prefix: RulePrefix<'a>,
         pattern: &'a [u8],
         action: &'a [u8],
     },
@@ -44,30 +44,30 @@ fn inside_len(text: &[u8]) -> usize
     text.iter().take_while(|c| **c != b'>').count()
 }
 
-fn closed_prefix<'a>(names: &'a [u8], text: &'a [u8]) -> (Prefix<'a>, &'a [u8])
+fn closed_prefix<'a>(names: &'a [u8], text: &'a [u8]) -> (RulePrefix<'a>, &'a [u8])
     ensures { (prefix_view result.0, result.1.now) ≡ plain.closed_prefix names.now text.now }
 {
     match text.split_first() {
-        Some((_, rest)) => (Prefix::Listed(names), rest),
-        None => (Prefix::Unclosed, text),
+        Some((_, rest)) => (RulePrefix::Listed(names), rest),
+        None => (RulePrefix::Unclosed, text),
     }
 }
 
-fn split_prefix(text: &[u8]) -> (Prefix<'_>, &[u8])
+fn split_prefix(text: &[u8]) -> (RulePrefix<'_>, &[u8])
     ensures { (prefix_view result.0, result.1.now) ≡ plain.split_prefix text.now }
 {
     let Some((c, rest)) = text.split_first() else {
-        return (Prefix::Absent, text);
+        return (RulePrefix::Absent, text);
     };
     if *c == b'<' {
         let n = inside_len(rest);
         closed_prefix(&rest[..n], &rest[n..])
     } else {
-        (Prefix::Absent, text)
+        (RulePrefix::Absent, text)
     }
 }
 
-fn rule_split<'a>(n: usize, prefix: Prefix<'a>, text: &'a [u8]) -> RuleLine<'a>
+fn rule_split<'a>(n: usize, prefix: RulePrefix<'a>, text: &'a [u8]) -> RuleLine<'a>
     requires { n ≤ length text.now }
     ensures { rule_line_view result ≡ plain.rule_split n (prefix_view prefix.entry) text.now }
 {
@@ -79,7 +79,7 @@ fn rule_split<'a>(n: usize, prefix: Prefix<'a>, text: &'a [u8]) -> RuleLine<'a>
     }
 }
 
-fn rule_begins<'a>(prefix: Prefix<'a>, text: &'a [u8]) -> RuleLine<'a>
+fn rule_begins<'a>(prefix: RulePrefix<'a>, text: &'a [u8]) -> RuleLine<'a>
     ensures { rule_line_view result ≡ plain.rule_begins (prefix_view prefix.entry) text.now }
 {
     let n = pattern_end(text);

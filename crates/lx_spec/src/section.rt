@@ -18,14 +18,14 @@ use crate::bytes::{begins_with, has_pair};
 use crate::fault::{Code, SpecFault};
 use crate::line::{Line, line_of, next_word};
 use crate::parsed_sections::{OpenRule, ParsedSections, RawDefinition, RawRule, StartCondition};
-use crate::rule_line::{Prefix, RuleLine, rule_line_of};
+use crate::rule_line::{RuleLine, RulePrefix, rule_line_of};
 use bstr::ByteSlice;
 use lx_rules::limits::{MAX_DEFINITIONS, MAX_RULES, MAX_START_CONDITIONS};
 use std::alloc::Global;
 
 /// The construct that a line is in.
 #[derive(Drop)]
-pub enum Place<'a> {
+pub enum LineContext<'a> {
     /// The definitions section itself.
     Definitions,
     /// A comment of the definitions section that began at this line.
@@ -157,22 +157,22 @@ fn take_definition<'a>(
     sections: ParsedSections<'a>,
     number: u32,
     line: &'a [u8],
-) -> Result<(ParsedSections<'a>, Option<Place<'a>>), SpecFault>
+) -> Result<(ParsedSections<'a>, Option<LineContext<'a>>), SpecFault>
     ensures { TakesLine taken_view (sections_view sections.entry) plain.definitions number line.now
         result }
 {
     match line_of(line) {
-        Line::Skipped => Ok((sections, Some(Place::Definitions))),
-        Line::OpensComment => Ok((sections, Some(Place::Comment(number)))),
-        Line::OpensGroup => Ok((sections, Some(Place::Group(number)))),
-        Line::RulesBegin => Ok((sections, Some(Place::Rules))),
+        Line::Skipped => Ok((sections, Some(LineContext::Definitions))),
+        Line::OpensComment => Ok((sections, Some(LineContext::Comment(number)))),
+        Line::OpensGroup => Ok((sections, Some(LineContext::Group(number)))),
+        Line::RulesBegin => Ok((sections, Some(LineContext::Rules))),
         Line::Conditions { exclusive, names } => {
             let sections = with_start_conditions(sections, number, exclusive, names)?;
-            Ok((sections, Some(Place::Definitions)))
+            Ok((sections, Some(LineContext::Definitions)))
         }
         Line::Definition { name, substitute } => {
             let sections = with_definition(sections, number, name, substitute)?;
-            Ok((sections, Some(Place::Definitions)))
+            Ok((sections, Some(LineContext::Definitions)))
         }
         Line::NoForm => Err(SpecFault {
             code: Code::NoForm,
@@ -185,16 +185,16 @@ fn take_definition<'a>(
 fn continue_rule<'a>(
     sections: ParsedSections<'a>,
     begun: OpenRule<'a>,
-) -> Result<(ParsedSections<'a>, Option<Place<'a>>), SpecFault>
+) -> Result<(ParsedSections<'a>, Option<LineContext<'a>>), SpecFault>
     ensures { (number : ℕ) (rest : List (List ℕ)) → Goes taken_view number rest result
         (plain.with_entries (sections_view sections.entry) (plain.entries_behind (raw_rule_view begun.entry.rule) begun.entry.count (number + 1) rest)) }
 {
     if is_closed(begun.count) {
         let OpenRule { rule, .. } = begun;
         let sections = with_rule(sections, rule, true)?;
-        Ok((sections, Some(Place::Rules)))
+        Ok((sections, Some(LineContext::Rules)))
     } else {
-        Ok((sections, Some(Place::Action(begun))))
+        Ok((sections, Some(LineContext::Action(begun))))
     }
 }
 
@@ -202,7 +202,7 @@ fn continue_rule<'a>(
 fn first_line<'a>(
     alloc: Global,
     line: u32,
-    prefix: Prefix<'a>,
+    prefix: RulePrefix<'a>,
     pattern: &'a [u8],
     text: &'a [u8],
 ) -> Result<OpenRule<'a>, SpecFault>
@@ -253,14 +253,14 @@ fn take_rule<'a>(
     sections: ParsedSections<'a>,
     number: u32,
     line: &'a [u8],
-) -> Result<(ParsedSections<'a>, Option<Place<'a>>), SpecFault>
+) -> Result<(ParsedSections<'a>, Option<LineContext<'a>>), SpecFault>
     requires { 0 < number }
     ensures { TakesLine taken_view (sections_view sections.entry) plain.rules number line.now
         result }
 {
     match rule_line_of(line) {
-        RuleLine::Skipped => Ok((sections, Some(Place::Rules))),
-        RuleLine::OpensGroup => Ok((sections, Some(Place::RulesGroup(number)))),
+        RuleLine::Skipped => Ok((sections, Some(LineContext::Rules))),
+        RuleLine::OpensGroup => Ok((sections, Some(LineContext::RulesGroup(number)))),
         RuleLine::RulesEnd => Ok((sections, None)),
         RuleLine::BeginsRule {
             prefix,
@@ -277,42 +277,42 @@ fn take_rule<'a>(
 fn take_line<'a>(
     alloc: Global,
     sections: ParsedSections<'a>,
-    place: Place<'a>,
+    place: LineContext<'a>,
     number: u32,
     line: &'a [u8],
-) -> Result<(ParsedSections<'a>, Option<Place<'a>>), SpecFault>
+) -> Result<(ParsedSections<'a>, Option<LineContext<'a>>), SpecFault>
     requires { 0 < number }
     ensures { TakesLine taken_view (sections_view sections.entry) (place_view place.entry) number
         line.now result }
 {
     match place {
-        Place::Definitions => take_definition(sections, number, line),
-        Place::Comment(since) => {
+        LineContext::Definitions => take_definition(sections, number, line),
+        LineContext::Comment(since) => {
             let next = if has_pair(b'*', b'/', line) {
-                Place::Definitions
+                LineContext::Definitions
             } else {
-                Place::Comment(since)
+                LineContext::Comment(since)
             };
             Ok((sections, Some(next)))
         }
-        Place::Group(since) => {
+        LineContext::Group(since) => {
             let next = if begins_with(b'%', b'}', line) {
-                Place::Definitions
+                LineContext::Definitions
             } else {
-                Place::Group(since)
+                LineContext::Group(since)
             };
             Ok((sections, Some(next)))
         }
-        Place::Rules => take_rule(alloc, sections, number, line),
-        Place::RulesGroup(since) => {
+        LineContext::Rules => take_rule(alloc, sections, number, line),
+        LineContext::RulesGroup(since) => {
             let next = if begins_with(b'%', b'}', line) {
-                Place::Rules
+                LineContext::Rules
             } else {
-                Place::RulesGroup(since)
+                LineContext::RulesGroup(since)
             };
             Ok((sections, Some(next)))
         }
-        Place::Action(begun) => {
+        LineContext::Action(begun) => {
             let begun = next_line(begun, line)?;
             continue_rule(sections, begun)
         }
@@ -320,24 +320,25 @@ fn take_line<'a>(
 }
 
 // Returns the sections at the end of the text.
-fn at_end<'a>(
+fn finish_sections<'a>(
     sections: ParsedSections<'a>,
-    place: Place<'a>,
+    place: LineContext<'a>,
 ) -> Result<ParsedSections<'a>, SpecFault>
     ensures { (n : ℕ) → Gives sections_view result
         (plain.sections_behind (sections_view sections.entry) (place_view place.entry) n []) }
 {
     match place {
-        Place::Definitions => Err(SpecFault {
+        LineContext::Definitions => Err(SpecFault {
             code: Code::NoRules,
             line: 0,
         }),
-        Place::Comment(since) | Place::Group(since) | Place::RulesGroup(since) => Err(SpecFault {
-            code: Code::NotClosed,
-            line: since,
-        }),
-        Place::Rules => Ok(sections),
-        Place::Action(begun) => {
+        LineContext::Comment(since) | LineContext::Group(since) | LineContext::RulesGroup(since) =>
+            Err(SpecFault {
+                code: Code::NotClosed,
+                line: since,
+            }),
+        LineContext::Rules => Ok(sections),
+        LineContext::Action(begun) => {
             let OpenRule { rule, .. } = begun;
             with_rule(sections, rule, false)
         }
@@ -366,7 +367,7 @@ pub fn read_sections<'a>(alloc: Global, text: &'a [u8]) -> Result<ParsedSections
     ensures { Gives sections_view result (plain.sections_of text.now) }
 {
     let mut sections = only_initial(alloc)?;
-    let mut place = Place::Definitions;
+    let mut place = LineContext::Definitions;
     let mut number: u32 = 1;
     let mut lines = text.lines();
     while let Some(line) = lines.next() {
@@ -378,5 +379,5 @@ pub fn read_sections<'a>(alloc: Global, text: &'a [u8]) -> Result<ParsedSections
         }
         number += 1;
     }
-    at_end(sections, place)
+    finish_sections(sections, place)
 }

@@ -37,7 +37,7 @@ pub enum Word<'a> {
 
 /// The construct at the start of a text.
 #[derive(Drop)]
-pub enum Piece<'a> {
+pub enum WordConstruct<'a> {
     /// The end of the text.
     Ended,
     /// A blank, a line's end or a comment, with the text after it.
@@ -63,7 +63,7 @@ fn sign_of<'a>(c: u8) -> Option<Word<'a>>
 }
 
 // Returns the text after the first `*/`.
-fn behind_comment(text: &[u8]) -> Option<&[u8]>
+fn skip_comment(text: &[u8]) -> Option<&[u8]>
     ensures value { option_map (λ r. r.now) result ≡ plain.behind_comment text.now }
     ensures less { IfSome result (λ r. length r.now ≤ length text.now) }
 {
@@ -85,61 +85,61 @@ fn line_len(text: &[u8]) -> usize
 }
 
 // Reads a comment of several lines, starting after its `/`.
-fn comment_at(text: &[u8]) -> Piece<'_>
+fn comment_at(text: &[u8]) -> WordConstruct<'_>
     ensures value { piece_view result ≡ plain.comment_at text.now }
     ensures less { LeavesLess result (length text.now + 1) }
 {
     let Some((_, rest)) = text.split_first() else {
-        return Piece::NoWord;
+        return WordConstruct::NoWord;
     };
-    match behind_comment(rest) {
-        Some(behind) => Piece::Passed(behind),
-        None => Piece::NoWord,
+    match skip_comment(rest) {
+        Some(behind) => WordConstruct::Passed(behind),
+        None => WordConstruct::NoWord,
     }
 }
 
-fn letters_piece(text: &[u8]) -> Piece<'_>
+fn letters_piece(text: &[u8]) -> WordConstruct<'_>
     requires { 0 < prefix_len is_word_byte text.now }
     ensures value { piece_view result ≡ plain.letters_piece text.now }
     ensures less { LeavesLess result (length text.now) }
 {
     let n = word_len(text);
-    Piece::Found(Word::Letters(&text[..n]), &text[n..])
+    WordConstruct::Found(Word::Letters(&text[..n]), &text[n..])
 }
 
 // Reads a piece of one byte, or a constant, starting after its first byte.
-fn sign_piece(c: u8, text: &[u8]) -> Piece<'_>
+fn sign_piece(c: u8, text: &[u8]) -> WordConstruct<'_>
     ensures value { piece_view result ≡ plain.sign_piece c text.now }
     ensures less { LeavesLess result (length text.now + 1) }
 {
     if c == b'\'' {
         match constant_at(text) {
-            Some((byte, rest)) => Piece::Found(Word::Byte(byte), rest),
-            None => Piece::NoWord,
+            Some((byte, rest)) => WordConstruct::Found(Word::Byte(byte), rest),
+            None => WordConstruct::NoWord,
         }
     } else {
         match sign_of(c) {
-            Some(word) => Piece::Found(word, text),
-            None => Piece::NoWord,
+            Some(word) => WordConstruct::Found(word, text),
+            None => WordConstruct::NoWord,
         }
     }
 }
 
 /// Returns the first form that fits the start of the text.
-pub fn piece_at(text: &[u8]) -> Piece<'_>
+pub fn piece_at(text: &[u8]) -> WordConstruct<'_>
     ensures value { piece_view result ≡ plain.piece_at text.now }
     ensures less { LeavesLess result (length text.now) }
 {
     let Some((c, rest)) = text.split_first() else {
-        return Piece::Ended;
+        return WordConstruct::Ended;
     };
     let c = *c;
     if is_blank(c) || c == b'\n' {
-        Piece::Passed(rest)
+        WordConstruct::Passed(rest)
     } else if begins_with(b'/', b'*', text) {
         comment_at(rest)
     } else if begins_with(b'/', b'/', text) {
-        Piece::Passed(&rest[line_len(rest)..])
+        WordConstruct::Passed(&rest[line_len(rest)..])
     } else if is_word_byte(c) {
         letters_piece(text)
     } else {
@@ -160,13 +160,13 @@ pub(crate) fn read_words<'a>(
     let mut rest = text;
     'pieces: loop {
         match piece_at(rest) {
-            Piece::Ended => return Ok(Some(words)),
-            Piece::Passed(behind) => rest = behind,
-            Piece::Found(word, behind) => {
+            WordConstruct::Ended => return Ok(Some(words)),
+            WordConstruct::Passed(behind) => rest = behind,
+            WordConstruct::Found(word, behind) => {
                 words.push(word)?;
                 rest = behind;
             }
-            Piece::NoWord => return Ok(None),
+            WordConstruct::NoWord => return Ok(None),
         }
     }
 }

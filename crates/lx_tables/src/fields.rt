@@ -26,7 +26,7 @@ pub(crate) fn number(text: &[u8]) -> (u32, &[u8])
 }
 
 /// Returns the text after `count` bytes.
-pub(crate) fn behind(text: &[u8], count: usize) -> &[u8]
+pub(crate) fn skip(text: &[u8], count: usize) -> &[u8]
     ensures { result.now ≡ drop count text.now }
 {
     &text[count.min(text.len())..]
@@ -37,8 +37,8 @@ pub(crate) fn count(text: &[u8], word: usize, most: u32) -> (u32, &[u8])
     ensures value { (result.0, result.1.now) ≡ read_count most word text.now }
     ensures few { result.0 ≤ most }
 {
-    let (n, rest) = number(behind(text, word));
-    (n.min(most), behind(rest, 1))
+    let (n, rest) = number(skip(text, word));
+    (n.min(most), skip(rest, 1))
 }
 
 /// Encodes a number as an option: one more than it if it is below the limit, otherwise 0.
@@ -50,7 +50,7 @@ fn encoded_option_below(limit: u32, n: u32) -> u16
 }
 
 /// Returns the number, limited to the range from `low` to `high`.
-pub(crate) fn clamped(low: u32, high: u32, n: u32) -> u32
+pub(crate) fn clamp(low: u32, high: u32, n: u32) -> u32
     requires { low ≤ high }
     ensures value { result ≡ within low high n }
     ensures from { low ≤ result }
@@ -63,9 +63,9 @@ pub(crate) fn clamped(low: u32, high: u32, n: u32) -> u32
 pub(crate) fn start(text: &[u8]) -> ((u32, u32), &[u8])
     ensures { (result.0, result.1.now) ≡ read_start text.now }
 {
-    let (elsewhere, rest) = number(behind(text, 6));
-    let (at_begin, rest) = number(behind(rest, 1));
-    ((elsewhere, at_begin), behind(rest, 1))
+    let (elsewhere, rest) = number(skip(text, 6));
+    let (at_begin, rest) = number(skip(rest, 1));
+    ((elsewhere, at_begin), skip(rest, 1))
 }
 
 /// Reads the bytes up to the line's end.
@@ -76,14 +76,14 @@ pub(crate) fn line(text: &[u8]) -> (&[u8], &[u8])
     while end < text.len() && text[end] != b'\n' {
         end += 1;
     }
-    (&text[..end], behind(&text[end..], 1))
+    (&text[..end], skip(&text[end..], 1))
 }
 
 /// Reads the name of a kind.
 pub(crate) fn kind(text: &[u8]) -> (&[u8], &[u8])
     ensures { (result.0.now, result.1.now) ≡ read_kind text.now }
 {
-    line(behind(text, 5))
+    line(skip(text, 5))
 }
 
 /// Returns the byte at a position, or 0 after the end.
@@ -125,7 +125,7 @@ pub(crate) fn accepts(text: &[u8]) -> (u16, &[u8])
 {
     let (rule, rest) = number(text);
     if byte_at(rest, 0) == b'-' {
-        return (0, behind(rest, 1));
+        return (0, skip(rest, 1));
     }
     (encoded_option_below(MAX_RULES as u32, rule), rest)
 }
@@ -134,9 +134,9 @@ pub(crate) fn accepts(text: &[u8]) -> (u16, &[u8])
 fn range(text: &[u8]) -> ((u32, u32, u32), &[u8])
     ensures { (result.0, result.1.now) ≡ read_range text.now }
 {
-    let (low, rest) = number(behind(text, 1));
-    let (high, rest) = number(behind(rest, 1));
-    let (value, rest) = number(behind(rest, 1));
+    let (low, rest) = number(skip(text, 1));
+    let (high, rest) = number(skip(rest, 1));
+    let (value, rest) = number(skip(rest, 1));
     ((low, high + 1, value), rest)
 }
 
@@ -144,8 +144,8 @@ fn range(text: &[u8]) -> ((u32, u32, u32), &[u8])
 fn entry(text: &[u8]) -> ((u32, u32, u32), &[u8])
     ensures { (result.0, result.1.now) ≡ read_entry text.now }
 {
-    let (class, rest) = number(behind(text, 1));
-    let (target, rest) = number(behind(rest, 1));
+    let (class, rest) = number(skip(text, 1));
+    let (target, rest) = number(skip(rest, 1));
     ((class, class + 1, target), rest)
 }
 

@@ -23,7 +23,7 @@ fn bit(newline: bool) -> usize
     if newline { 1 } else { 0 }
 }
 
-fn encoded(state: Option<u32>) -> usize
+fn encode(state: Option<u32>) -> usize
     ensures { result ≡ encoded state }
 {
     match state {
@@ -180,7 +180,7 @@ fn step(
     }
     (
         ending.code,
-        tables.begun(ending.condition, q.newline, class, newline),
+        tables.first_state(ending.condition, q.newline, class, newline),
     )
 }
 
@@ -297,7 +297,7 @@ fn joined_of(alloc: Global, tables: &Tables) -> Result<Option<Joined>, AllocErro
 
 impl Tables {
     /// Returns the state of the joined table after the first byte of a match. The byte has this class, and is a newline or not.
-    pub fn begun(
+    pub fn first_state(
         &self,
         condition: u16,
         at_line_begin: bool,
@@ -324,7 +324,7 @@ impl Tables {
         ensures within { result + joined_width self.now ≤ joined_len self.now }
     {
         let start = usize::from(q.condition) * 2 + bit(q.newline);
-        let number = start * (self.states() as usize + 1) + encoded(q.state);
+        let number = start * (self.states() as usize + 1) + encode(q.state);
         number * (usize::from(self.classes()) + 1)
     }
 

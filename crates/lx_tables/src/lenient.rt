@@ -8,9 +8,7 @@ ghost use Rattle.lx_tables.specs.Readers.{onto, state_onto, read_list, read_star
 ghost use Rattle.lx_tables.specs.Texts.{all_bytes};
 ghost use Rattle.lx_tables.specs.Views.{rule_view, rules_view, front_view, raw_view};
 
-use crate::fields::{
-    accepts, behind, byte_at, clamped, count, encoded_value, kind, run, start, step,
-};
+use crate::fields::{accepts, byte_at, clamp, count, encoded_value, kind, run, skip, start, step};
 use crate::raw::{RawFront, RawTables};
 use crate::table_rule::TableRule;
 use crate::version::Version;
@@ -59,12 +57,12 @@ fn steps(alloc: Global, text: &[u8], most: usize) -> Result<(Vec<Step>, &[u8]), 
     let mut rest = text;
     let mut left = most;
     while left > 0 && byte_at(rest, 0) == b' ' {
-        let (next, more) = step(behind(rest, 1));
+        let (next, more) = step(skip(rest, 1));
         steps.push(next)?;
         rest = more;
         left -= 1;
     }
-    Ok((steps, behind(rest, 1)))
+    Ok((steps, skip(rest, 1)))
 }
 
 /// Reads the line of a rule.
@@ -72,7 +70,7 @@ fn rule(alloc: Global, text: &[u8]) -> Result<(TableRule, &[u8]), AllocError>
     ensures { IfOk result (λ r. (rule_view r.0, r.1.now) ≡ read_rule text.now) }
 {
     let line_end = byte_at(text, 5) == b'1';
-    let (steps, rest) = steps(alloc, behind(text, 6), text.len())?;
+    let (steps, rest) = steps(alloc, skip(text, 6), text.len())?;
     let steps = Steps::from_vec(steps)?;
     Ok((TableRule { line_end, steps }, rest))
 }
@@ -142,8 +140,8 @@ fn row<'a>(
     let mut left = width;
     while left > 0 && byte_at(rest, 0) == b' ' {
         let ((first, last, value), more) = run(rest, version);
-        let low = clamped(from, width, first);
-        let end = clamped(low, width, last);
+        let low = clamp(from, width, first);
+        let end = clamp(low, width, last);
         push_many(encoded_options, low - from, 0)?;
         push_many(encoded_options, end - low, encoded_value(value))?;
         from = end;
@@ -167,10 +165,10 @@ fn state<'a>(
         ≡ state_onto (map decoded_option accepted.old.items)
         (map decoded_option targets.old.items) (read_state version width text.now)) }
 {
-    let (encoded_option, rest) = accepts(behind(text, 6));
+    let (encoded_option, rest) = accepts(skip(text, 6));
     accepted.push(encoded_option)?;
     let rest = row(rest, version, width, targets)?;
-    Ok(behind(rest, 1))
+    Ok(skip(rest, 1))
 }
 
 /// Reads a count of states and their lines. Returns the encoded options of the rules that they accept, and their rows.
@@ -241,7 +239,7 @@ fn bytes_as_classes(alloc: Global) -> Result<Vec<u8>, AllocError>
 fn first_version(alloc: Global, text: &[u8]) -> Result<RawTables, AllocError>
     ensures { IfOk result (λ raw. raw_view raw ≡ read_1 text.now) }
 {
-    let (front, rest) = front(alloc, behind(text, 12))?;
+    let (front, rest) = front(alloc, skip(text, 12))?;
     let (accepted, targets) = states(alloc, rest, Version::First, 256)?;
     let classes = bytes_as_classes(alloc)?;
     Ok(RawTables {
@@ -259,10 +257,10 @@ fn first_version(alloc: Global, text: &[u8]) -> Result<RawTables, AllocError>
 fn second_version(alloc: Global, text: &[u8]) -> Result<RawTables, AllocError>
     ensures { IfOk result (λ raw. raw_view raw ≡ read_2 text.now) }
 {
-    let (front, rest) = front(alloc, behind(text, 12))?;
+    let (front, rest) = front(alloc, skip(text, 12))?;
     let (width, rest) = count(rest, 8, 256);
-    let (classes, rest) = classes(alloc, behind(rest, 5))?;
-    let (accepted, targets) = states(alloc, behind(rest, 1), Version::Second, width)?;
+    let (classes, rest) = classes(alloc, skip(rest, 5))?;
+    let (accepted, targets) = states(alloc, skip(rest, 1), Version::Second, width)?;
     Ok(RawTables {
         starts: front.starts,
         classes,

@@ -14,7 +14,7 @@ use lx_automaton::Automaton;
 use std::alloc::{AllocError, Global};
 
 /// Makes tables over byte classes from tested lists.
-fn classed(alloc: Global, raw: RawTables) -> Result<Tables, AllocError>
+fn over_classes(alloc: Global, raw: RawTables) -> Result<Tables, AllocError>
     requires { HasLimits (raw_view raw) }
     ensures classed { IfOk result (λ tables. IsClassed (raw_view raw) tables) }
     ensures table { IfOk result (λ tables. IsTable tables) }
@@ -74,7 +74,7 @@ impl Tables {
         if !has_limits(alloc, &raw)? {
             return Err(TableFault::NoTables);
         }
-        let tables = classed(alloc, raw)?;
+        let tables = over_classes(alloc, raw)?;
         if !is_text_of(alloc, &tables, text)? {
             return Err(TableFault::NoTables);
         }

@@ -191,7 +191,7 @@ impl Tables {
     }
 
     /// Returns the joined table of the same automaton and rules, if there is one.
-    pub fn joined(&self) -> Option<&Joined>
+    pub fn joined_table(&self) -> Option<&Joined>
         ensures joined { IfSome result
             (λ j. IsJoined self.now j.now.columns.items j.now.entries.items j.now.labels.items) }
         ensures table { IsTable self.now }

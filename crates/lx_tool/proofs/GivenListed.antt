@@ -7,8 +7,8 @@ use Rattle.lx_listing.specs.AppendingLaws.{appends_nothing}
 use Rattle.lx_tool.specs.Given.{AreListed, ArePartlyListed, AreRead, FailsListing}
 use Rattle.lx_tool.specs.Planning.{AreBytes, ListsBy, ListsPrefixBy}
 use Rattle.lx_tool.specs.Statuses.{failure_of_run}
-use Rattle.lx_tool.specs.declared.failure.Failure.{Failure}
-use Rattle.lx_tool.specs.declared.failure.Failure.TheVariants.{Specification, Automaton, Tables, Unprintable, Words, TooManyFiles, InputTwice, Refused, NotRead, Output, Memory}
+use Rattle.lx_tool.specs.declared.failure.CommandFault.{CommandFault}
+use Rattle.lx_tool.specs.declared.failure.CommandFault.TheVariants.{Specification, Automaton, Tables, Unprintable, Words, TooManyFiles, InputTwice, Refused, NotRead, Output, Memory}
 use Rattle.lx_post.specs.declared.run_fault.RunFault.{RunFault}
 use Rattle.lx_post.specs.declared.run_fault.RunFault.TheVariants as run
 
@@ -21,7 +21,7 @@ listed_nothing table inputs written none = subst (λ (xs : List PlainInput). Lis
 })
 
 -- the lines were begun
-fails_late : {S : Type 0} (P : Failure → Type 0) (Part : Type 0) (names : List (List ℕ)) (before after : S) (old new : Option (List ℕ)) → Part → (fault : RunFault) → FailsListing P Part names before after old new (failure_of_run fault)
+fails_late : {S : Type 0} (P : CommandFault → Type 0) (Part : Type 0) (names : List (List ℕ)) (before after : S) (old new : Option (List ℕ)) → Part → (fault : RunFault) → FailsListing P Part names before after old new (failure_of_run fault)
 fails_late P Part names before after old new part run.Memory = inr part
 fails_late P Part names before after old new part run.Reader = part
 
@@ -46,8 +46,8 @@ module _ {S : Type 0} (gives : S → List ℕ → PlainInput → S → Type 0) (
   pub partly_as_well : ArePartlyListed gives P names before after → ArePartlyListed gives Q names before after
   partly_as_well l = record { inputs = l.inputs; given = l.given; bytes = l.bytes; listed = as_well l.inputs l.bytes l.listed }
 
-pub fails_as_well : {S : Type 0} (P Q : Failure → Type 0) (Part OtherPart : Type 0) (names : List (List ℕ)) (before after : S) (old new : Option (List ℕ)) → ((failure : Failure) → P failure → Q failure) → (Part → OtherPart) →
-    (failure : Failure) → FailsListing P Part names before after old new failure → FailsListing Q OtherPart names before after old new failure
+pub fails_as_well : {S : Type 0} (P Q : CommandFault → Type 0) (Part OtherPart : Type 0) (names : List (List ℕ)) (before after : S) (old new : Option (List ℕ)) → ((failure : CommandFault) → P failure → Q failure) → (Part → OtherPart) →
+    (failure : CommandFault) → FailsListing P Part names before after old new failure → FailsListing Q OtherPart names before after old new failure
 fails_as_well P Q Part OtherPart names before after old new refused part (Specification fault) h = (refused (Specification fault) h.0, h.1)
 fails_as_well P Q Part OtherPart names before after old new refused part (Automaton fault) h = (refused (Automaton fault) h.0, h.1)
 fails_as_well P Q Part OtherPart names before after old new refused part (Tables fault) h = (refused (Tables fault) h.0, h.1)

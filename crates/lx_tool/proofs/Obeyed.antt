@@ -22,11 +22,11 @@ use Rattle.lx_tool.specs.Sources.{texts_of, whole}
 use Rattle.lx_tool.specs.Statuses.{HasStatusOfCut, HidesNoMemory, WroteReport, report_in, status_of}
 use Rattle.lx_tool.specs.Printing.{AreKindsRefused, AreScannerWordsRefused, FailsPrinting, IsScannerFault, IsWritten, PrintsSpecification, PrintsTables}
 use Rattle.lx_tool.specs.Tabling.{HasNoTables}
-use Rattle.lx_tool.specs.declared.failure.Failure.{Failure}
+use Rattle.lx_tool.specs.declared.failure.CommandFault.{CommandFault}
 use Rattle.lx_tool.specs.declared.failure.RequestFault.{RequestFault}
 use Rattle.lx_tool.specs.declared.failure.RequestFault.TheVariants.{NoTargets, Outputs}
 use Rattle.lx_tool.specs.declared.failure.OutputFault.{OutputFault}
-use Rattle.lx_tool.specs.declared.failure.Failure.TheVariants.{Specification, Automaton, Tables, Unprintable, Words, TooManyFiles, InputTwice, Refused, NotRead, Output, Memory}
+use Rattle.lx_tool.specs.declared.failure.CommandFault.TheVariants.{Specification, Automaton, Tables, Unprintable, Words, TooManyFiles, InputTwice, Refused, NotRead, Output, Memory}
 
 -- ---- the contents of a writer
 
@@ -122,7 +122,7 @@ module _ (old mid new : Option (List ℕ)) (kept : Keeps mid new) where
 
 -- ---- refusals
 
-pub no_tables_tells : (text : List ℕ) (failure : Failure) → HasNoTables text failure → HidesNoMemory failure
+pub no_tables_tells : (text : List ℕ) (failure : CommandFault) → HasNoTables text failure → HidesNoMemory failure
 no_tables_tells text (Specification fault) h = h.0
 no_tables_tells text (Automaton fault) h = h.known
 no_tables_tells text (Tables fault) h = absurd h
@@ -135,7 +135,7 @@ no_tables_tells text (NotRead name) h = tt
 no_tables_tells text Output h = tt
 no_tables_tells text Memory h = tt
 
-pub no_table_tells : (text : List ℕ) (failure : Failure) → IsNoTable text failure → HidesNoMemory failure
+pub no_table_tells : (text : List ℕ) (failure : CommandFault) → IsNoTable text failure → HidesNoMemory failure
 no_table_tells text (Specification fault) h = absurd h
 no_table_tells text (Automaton fault) h = absurd h
 no_table_tells text (Tables fault) h = λ e. let f = h.0 in cc
@@ -155,10 +155,10 @@ only_one name other (suc n, within, is) = absurd (omega (arith, within))
 
 module _ {S : Type 0} (gives : S → List ℕ → PlainInput → S → Type 0) (before : S) (old new : Option (List ℕ)) where
   -- a specification or tables were rejected
-  pub rules_refused : (asked : Asked) (Refuses : Failure → Type 0) → ((failure : Failure) → Refuses failure → AreRulesRefused gives before asked failure) →
-      ((failure : Failure) → Refuses failure → HidesNoMemory failure) → Keeps old new →
+  pub rules_refused : (asked : Asked) (Refuses : CommandFault → Type 0) → ((failure : CommandFault) → Refuses failure → AreRulesRefused gives before asked failure) →
+      ((failure : CommandFault) → Refuses failure → HidesNoMemory failure) → Keeps old new →
       (Refuses TooManyFiles → ⊥) → (Refuses InputTwice → ⊥) → ((fault : _) → Refuses (Refused fault) → ⊥) → ((name : _) → Refuses (NotRead name) → ⊥) → ((error : _) → Refuses (Words error) → ⊥) →
-      (failure : Failure) → Refuses failure → HasFailed gives (Some asked) before old new failure
+      (failure : CommandFault) → Refuses failure → HasFailed gives (Some asked) before old new failure
   rules_refused asked Refuses refused tells kept few once listing known words (Specification fault) h = λ low. record { cause = refused (Specification fault) h; tells = tells (Specification fault) h; kept = kept }
   rules_refused asked Refuses refused tells kept few once listing known words (Automaton fault) h = λ low. record { cause = refused (Automaton fault) h; tells = tells (Automaton fault) h; kept = kept }
   rules_refused asked Refuses refused tells kept few once listing known words (Tables fault) h = λ low. record { cause = refused (Tables fault) h; tells = tells (Tables fault) h; kept = kept }
@@ -173,14 +173,14 @@ module _ {S : Type 0} (gives : S → List ℕ → PlainInput → S → Type 0) (
 
   -- the arguments of a listing were rejected
   pub words_refused : (asked : Asked) (order : PlainOrder) → (max_files < length order.files → max_files < length (files_asked asked)) → (1 < input_uses order order.files → 1 < inputs_asked asked) →
-      ((fault : RequestFault) → IsWordsFault order fault → IsFormRefused asked fault) → Keeps old new → (failure : Failure) → AreWordsRefused order failure → HasFailed gives (Some asked) before old new failure
+      ((fault : RequestFault) → IsWordsFault order fault → IsFormRefused asked fault) → Keeps old new → (failure : CommandFault) → AreWordsRefused order failure → HasFailed gives (Some asked) before old new failure
   words_refused asked order many twice form kept failure (inl h) = rw h.0 (λ low. record { cause = inl (many h.1); tells = tt; kept = kept })
   words_refused asked order many twice form kept failure (inr (inl h)) = rw h.0 (λ low. record { cause = inl (twice h.1); tells = tt; kept = kept })
   words_refused asked order many twice form kept failure (inr (inr h)) = rw h.1 (λ low. record { cause = inl (form h.0 h.2); tells = tt; kept = kept })
 
   -- a listing was rejected once its tables were made
-  pub later_refused : (asked : Asked) (order : PlainOrder) (table : Table) (between : S) → ((failure : Failure) → IsListingRefused gives order table between failure → IsRefusedLater gives before asked failure) →
-      (failure : Failure) → (status_of failure < 4 → IsListingRefused gives order table between failure × HidesNoMemory failure × Keeps old new) → HasFailed gives (Some asked) before old new failure
+  pub later_refused : (asked : Asked) (order : PlainOrder) (table : Table) (between : S) → ((failure : CommandFault) → IsListingRefused gives order table between failure → IsRefusedLater gives before asked failure) →
+      (failure : CommandFault) → (status_of failure < 4 → IsListingRefused gives order table between failure × HidesNoMemory failure × Keeps old new) → HasFailed gives (Some asked) before old new failure
   later_refused asked order table between later (Specification fault) h = λ low. absurd (h low).0
   later_refused asked order table between later (Automaton fault) h = λ low. absurd (h low).0
   later_refused asked order table between later (Tables fault) h = λ low. absurd (h low).0
@@ -194,7 +194,7 @@ module _ {S : Type 0} (gives : S → List ℕ → PlainInput → S → Type 0) (
   later_refused asked order table between later Memory h = λ low. absurd (omega (arith, low))
 
   -- a name among its arguments can't be read
-  pub rules_unread : (asked : Asked) (name : List ℕ) → Contains (names_asked asked) name → Keeps old new → (failure : Failure) → IsUnread (name ∷ []) failure → HasFailed gives (Some asked) before old new failure
+  pub rules_unread : (asked : Asked) (name : List ℕ) → Contains (names_asked asked) name → Keeps old new → (failure : CommandFault) → IsUnread (name ∷ []) failure → HasFailed gives (Some asked) before old new failure
   rules_unread asked name among kept (Specification fault) h = absurd h
   rules_unread asked name among kept (Automaton fault) h = absurd h
   rules_unread asked name among kept (Tables fault) h = absurd h
@@ -209,49 +209,49 @@ module _ {S : Type 0} (gives : S → List ℕ → PlainInput → S → Type 0) (
 
   module _ (text : List ℕ) (between : S) where
     -- the text has no tables
-    pub rules_no_tables : (asked : Asked) → ((failure : Failure) → HasNoTables text failure → AreRulesRefused gives before asked failure) → Keeps old new →
-        (failure : Failure) → HasNoTables text failure → HasFailed gives (Some asked) before old new failure
+    pub rules_no_tables : (asked : Asked) → ((failure : CommandFault) → HasNoTables text failure → AreRulesRefused gives before asked failure) → Keeps old new →
+        (failure : CommandFault) → HasNoTables text failure → HasFailed gives (Some asked) before old new failure
     rules_no_tables asked refused kept =
         rules_refused asked (HasNoTables text) refused (no_tables_tells text) kept (λ r. absurd r) (λ r. absurd r) (λ fault r. absurd r) (λ name r. absurd r) (λ error r. absurd r)
 
     -- or it is no table's
-    pub rules_no_table : (asked : Asked) → ((failure : Failure) → IsNoTable text failure → AreRulesRefused gives before asked failure) → Keeps old new →
-        (failure : Failure) → IsNoTable text failure → HasFailed gives (Some asked) before old new failure
+    pub rules_no_table : (asked : Asked) → ((failure : CommandFault) → IsNoTable text failure → AreRulesRefused gives before asked failure) → Keeps old new →
+        (failure : CommandFault) → IsNoTable text failure → HasFailed gives (Some asked) before old new failure
     rules_no_table asked refused kept =
         rules_refused asked (IsNoTable text) refused (no_table_tells text) kept (λ r. absurd r) (λ r. absurd r) (λ fault r. absurd r) (λ name r. absurd r) (λ error r. absurd r)
 
   -- the arguments for a scanner in C were rejected
   pub scanner_refused : (asked : Asked) (c : PlainC) → ((fault : RequestFault) → IsScannerFault c fault → IsFormRefused asked fault) → Keeps old new →
-      (failure : Failure) → AreScannerWordsRefused c failure → HasFailed gives (Some asked) before old new failure
+      (failure : CommandFault) → AreScannerWordsRefused c failure → HasFailed gives (Some asked) before old new failure
   scanner_refused asked c form kept failure (inl h) = rw h (λ low. absurd (omega (arith, low)))
   scanner_refused asked c form kept failure (inr h) = rw h.1 (λ low. record { cause = inl (form h.0 h.2); tells = tt; kept = kept })
 
   -- no file was made, or the kinds were rejected
   module _ (asked : Asked) (c : PlainC) (o : Options) (table : Table) (target : Option (List ℕ)) (form : target ≢ None → IsFormRefused asked NoTargets)
-      (kinds : (failure : Failure) → AreKindsRefused c o table failure → AreRulesRefused gives before asked failure) where
-    for_cause : (failure : Failure) → Keeps old new → ((failure ≡ Refused NoTargets) × (target ≢ None)) ⊎ AreKindsRefused c o table failure → IsRefused gives (Some asked) before old new failure
+      (kinds : (failure : CommandFault) → AreKindsRefused c o table failure → AreRulesRefused gives before asked failure) where
+    for_cause : (failure : CommandFault) → Keeps old new → ((failure ≡ Refused NoTargets) × (target ≢ None)) ⊎ AreKindsRefused c o table failure → IsRefused gives (Some asked) before old new failure
     for_cause failure kept (inl h) = rw h.0 (record { cause = inl (form h.1); tells = tt; kept = kept })
     for_cause failure kept (inr h) = rw h.answers (record { cause = subst (AreRulesRefused gives before asked) h.answers (kinds failure h); tells = tt; kept = kept })
 
-    pub printing_refused : (failure : Failure) → (status_of failure < 4 → FailsPrinting c o table target old new failure) → HasFailed gives (Some asked) before old new failure
+    pub printing_refused : (failure : CommandFault) → (status_of failure < 4 → FailsPrinting c o table target old new failure) → HasFailed gives (Some asked) before old new failure
     printing_refused failure h = λ low. for_cause failure (h low).kept (h low).cause
 
   -- the text has nothing that can be shown
-  pub show_refused : (s : PlainShow) (text : List ℕ) → ((failure : Failure) → IsNotShown s text failure → AreRulesRefused gives before (show s) failure) → Keeps old new →
-      (failure : Failure) → HasNoneShown text failure → HasFailed gives (Some (show s)) before old new failure
+  pub show_refused : (s : PlainShow) (text : List ℕ) → ((failure : CommandFault) → IsNotShown s text failure → AreRulesRefused gives before (show s) failure) → Keeps old new →
+      (failure : CommandFault) → HasNoneShown text failure → HasFailed gives (Some (show s)) before old new failure
   show_refused s text refused kept failure (inl h) =
       rules_refused (show s) (IsNoTable text) (λ f r. refused f (inl (inl (h.0, r)))) (no_table_tells text) kept (λ r. absurd r) (λ r. absurd r) (λ fault r. absurd r) (λ name r. absurd r) (λ error r. absurd r) failure h.1
   show_refused s text refused kept failure (inr h) =
       rules_refused (show s) (HasNoTables text) (λ f r. refused f (inl (inr (h.0, r)))) (no_tables_tells text) kept (λ r. absurd r) (λ r. absurd r) (λ fault r. absurd r) (λ name r. absurd r) (λ error r. absurd r) failure h.1
 
   -- or too much
-  pub show_too_large : (s : PlainShow) (table : Table) → ((failure : Failure) → HasManyStates s.all table failure → AreRulesRefused gives before (show s) failure) → Keeps old new →
-      (failure : Failure) → HasManyStates s.all table failure → HasFailed gives (Some (show s)) before old new failure
+  pub show_too_large : (s : PlainShow) (table : Table) → ((failure : CommandFault) → HasManyStates s.all table failure → AreRulesRefused gives before (show s) failure) → Keeps old new →
+      (failure : CommandFault) → HasManyStates s.all table failure → HasFailed gives (Some (show s)) before old new failure
   show_too_large s table refused kept failure h = rw h.told (λ low. record { cause = subst (AreRulesRefused gives before (show s)) h.told (refused failure h); tells = tt; kept = kept })
 
   -- the text is rejected, as reported
-  check_reported : (c : PlainCheck) (text : List ℕ) → ((failure : Failure) → IsReported c text failure → AreRulesRefused gives before (check c) failure) → Keeps old new →
-      (failure : Failure) → IsReported c text failure → HasFailed gives (Some (check c)) before old new failure
+  check_reported : (c : PlainCheck) (text : List ℕ) → ((failure : CommandFault) → IsReported c text failure → AreRulesRefused gives before (check c) failure) → Keeps old new →
+      (failure : CommandFault) → IsReported c text failure → HasFailed gives (Some (check c)) before old new failure
   check_reported c text refused kept (Specification fault) h = λ low. let carried = h.carried in absurd cc
   check_reported c text refused kept (Automaton fault) h = λ low. let carried = h.carried in absurd cc
   check_reported c text refused kept (Tables fault) h = λ low. let carried = h.carried in absurd cc
@@ -264,45 +264,45 @@ module _ {S : Type 0} (gives : S → List ℕ → PlainInput → S → Type 0) (
   check_reported c text refused kept Output h = λ low. absurd (omega (arith, low))
   check_reported c text refused kept Memory h = λ low. absurd (omega (arith, low))
 
-  pub check_refused : (c : PlainCheck) (text : List ℕ) → ((failure : Failure) → IsReported c text failure → AreRulesRefused gives before (check c) failure) → Keeps old new →
-      (failure : Failure) → (failure ≡ Memory) ⊎ IsReported c text failure → HasFailed gives (Some (check c)) before old new failure
+  pub check_refused : (c : PlainCheck) (text : List ℕ) → ((failure : CommandFault) → IsReported c text failure → AreRulesRefused gives before (check c) failure) → Keeps old new →
+      (failure : CommandFault) → (failure ≡ Memory) ⊎ IsReported c text failure → HasFailed gives (Some (check c)) before old new failure
   check_refused c text refused kept failure (inl h) = rw h (λ low. absurd (omega (arith, low)))
   check_refused c text refused kept failure (inr h) = check_reported c text refused kept failure h
 
   -- or its arguments are
-  pub warning_refused : (c : PlainCheck) → Keeps old new → (failure : Failure) → (fault : RequestFault) × (failure ≡ Refused fault) × IsWarningFault fault → HasFailed gives (Some (check c)) before old new failure
+  pub warning_refused : (c : PlainCheck) → Keeps old new → (failure : CommandFault) → (fault : RequestFault) × (failure ≡ Refused fault) × IsWarningFault fault → HasFailed gives (Some (check c)) before old new failure
   warning_refused c kept failure h = rw h.1 (λ low. record { cause = inl h.2; tells = tt; kept = kept })
 
   -- the word is unknown
-  pub explain_refused : (word : Option (List ℕ)) (failure : Failure) → (status_of failure < 4 → IsUnexplained word failure × Keeps old new) → HasFailed gives (Some (explain word)) before old new failure
+  pub explain_refused : (word : Option (List ℕ)) (failure : CommandFault) → (status_of failure < 4 → IsUnexplained word failure × Keeps old new) → HasFailed gives (Some (explain word)) before old new failure
   explain_refused word failure h = λ low. let known = (h low).0 in
       rw known.0 (record { cause = subst (IsUnexplained word) known.0 known; tells = tt; kept = (h low).1 })
 
   -- the flex specification wasn't imported
-  pub import_refused : (i : PlainImport) → ((failure : Failure) → IsNotImported failure → AreRulesRefused gives before (imports i) failure) → Keeps old new →
-      (failure : Failure) → (failure ≡ Memory) ⊎ IsNotImported failure → HasFailed gives (Some (imports i)) before old new failure
+  pub import_refused : (i : PlainImport) → ((failure : CommandFault) → IsNotImported failure → AreRulesRefused gives before (imports i) failure) → Keeps old new →
+      (failure : CommandFault) → (failure ≡ Memory) ⊎ IsNotImported failure → HasFailed gives (Some (imports i)) before old new failure
   import_refused i refused kept failure (inl h) = rw h (λ low. absurd (omega (arith, low)))
   import_refused i refused kept failure (inr h) = rw h (λ low. record { cause = subst (AreRulesRefused gives before (imports i)) h (refused failure h); tells = tt; kept = kept })
 
   -- or no file was made for it
-  pub import_unplaced : (i : PlainImport) (target : Option (List ℕ)) → (target ≢ None → AreImportWordsRefused i NoTargets) → (failure : Failure) → (status_of failure < 4 → Keeps old new) →
+  pub import_unplaced : (i : PlainImport) (target : Option (List ℕ)) → (target ≢ None → AreImportWordsRefused i NoTargets) → (failure : CommandFault) → (status_of failure < 4 → Keeps old new) →
       IsUnplaced target failure → HasFailed gives (Some (imports i)) before old new failure
   import_unplaced i target asked failure kept (inl h) = rw h (λ low. absurd (omega (arith, low)))
   import_unplaced i target asked failure kept (inr (inl h)) = rw h (λ low. absurd (omega (arith, low)))
   import_unplaced i target asked failure kept (inr (inr h)) = rw h.0 (λ low. record { cause = inl (asked h.1); tells = tt; kept = (rw h.0 at kept) low })
 
-  pub import_unwritten : {V : Type 0} (i : PlainImport) (target : Option (List ℕ)) → (target ≢ None → AreImportWordsRefused i NoTargets) → (ended : Result V Failure) →
+  pub import_unwritten : {V : Type 0} (i : PlainImport) (target : Option (List ℕ)) → (target ≢ None → AreImportWordsRefused i NoTargets) → (ended : Result V CommandFault) →
       IfErr ended (IsUnplaced target) → IfErr ended (λ failure. status_of failure < 4 → Keeps old new) → IfErr ended (HasFailed gives (Some (imports i)) before old new)
   import_unwritten i target asked (Ok v) h k = tt
   import_unwritten i target asked (Err failure) h k = import_unplaced i target asked failure k h
 
   -- a file for the output is the input, or another output
-  pub outputs_refused : (asked : Asked) (Is : OutputFault → Type 0) → ((fault : OutputFault) → Is fault → IsFormRefused asked (Outputs fault)) → Keeps old new → (failure : Failure) → IsRefusedFor Is failure → HasFailed gives (Some asked) before old new failure
+  pub outputs_refused : (asked : Asked) (Is : OutputFault → Type 0) → ((fault : OutputFault) → Is fault → IsFormRefused asked (Outputs fault)) → Keeps old new → (failure : CommandFault) → IsRefusedFor Is failure → HasFailed gives (Some asked) before old new failure
   outputs_refused asked Is form kept failure (inl h) = rw h (λ low. absurd (omega (arith, low)))
   outputs_refused asked Is form kept failure (inr h) = rw h.1 (λ low. record { cause = inl (form h.0 h.2); tells = tt; kept = kept })
 
   -- the stored specification was rejected
-  pub stored_refused : (failure : Failure) → (status_of failure < 4 → HasNoTables stored_specification failure × Keeps old new) → HasFailed gives (Some stored) before old new failure
+  pub stored_refused : (failure : CommandFault) → (status_of failure < 4 → HasNoTables stored_specification failure × Keeps old new) → HasFailed gives (Some stored) before old new failure
   stored_refused failure h = λ low. rules_refused stored (HasNoTables stored_specification) (λ f r. r) (no_tables_tells stored_specification) (h low).1 (λ r. absurd r) (λ r. absurd r) (λ fault r. absurd r) (λ name r. absurd r) (λ error r. absurd r) failure (h low).0 low
 
 -- ---- scanners in C
@@ -324,11 +324,11 @@ module _ (old mid new : Option (List ℕ)) where
   kept_wrote None h k = keeps_both old mid new h k
   kept_wrote (Some bytes) h k = kept_appends old mid new bytes h k
 
-  pub said_ok : {V : Type 0} (Holds : V → Option (List ℕ) → Type 0) (ended said : Result V Failure) → IfOk ended (λ v. Holds v mid) → IfOk said (λ v. (ended ≡ Ok v) × (new ≡ mid)) → IfOk said (λ v. Holds v new)
+  pub said_ok : {V : Type 0} (Holds : V → Option (List ℕ) → Type 0) (ended said : Result V CommandFault) → IfOk ended (λ v. Holds v mid) → IfOk said (λ v. (ended ≡ Ok v) × (new ≡ mid)) → IfOk said (λ v. Holds v new)
   said_ok Holds ended (Ok v) h k = let held : Holds v mid = rw k.0 at h in subst (λ n. Holds v n) (sym k.1) held
   said_ok Holds ended (Err failure) h k = tt
 
-  pub said_err : {S V : Type 0} (gives : S → List ℕ → PlainInput → S → Type 0) (asked : Option Asked) (before : S) (ended said : Result V Failure) → IfErr ended (HasFailed gives asked before old mid) →
+  pub said_err : {S V : Type 0} (gives : S → List ℕ → PlainInput → S → Type 0) (asked : Option Asked) (before : S) (ended said : Result V CommandFault) → IfErr ended (HasFailed gives asked before old mid) →
       IfErr said (λ failure. status_of failure < 4 → (ended ≡ Err failure) × WroteReport failure mid new) → IfErr said (HasToldFailure gives asked before old new)
   said_err gives asked before ended (Ok v) h k = tt
   said_err gives asked before ended (Err failure) h k = λ low.
@@ -344,12 +344,12 @@ module _ (old mid new : Option (List ℕ)) (kept : Keeps mid new) where
   report_kept (Some bytes) h = appends_kept old mid new bytes h kept
 
   module _ {S V : Type 0} (gives : S → List ℕ → PlainInput → S → Type 0) (before after : S) (asked : Option Asked) where
-    pub sent_ok : (A : Type 0) (names : V → List (List ℕ)) (ended sent : Result V Failure) → IfOk ended (λ cut. HasObeyed gives before after old mid (names cut) asked) →
+    pub sent_ok : (A : Type 0) (names : V → List (List ℕ)) (ended sent : Result V CommandFault) → IfOk ended (λ cut. HasObeyed gives before after old mid (names cut) asked) →
         IfOk sent (λ cut. (ended ≡ Ok cut) × A) → IfOk sent (λ cut. HasObeyed gives before after old new (names cut) asked)
     sent_ok A names ended (Ok cut) h k = let held : HasObeyed gives before after old mid (names cut) asked = rw k.0 at h in obeyed_kept old mid new kept gives before after (names cut) asked held
     sent_ok A names ended (Err failure) h k = tt
 
-    pub sent_err : (ended sent : Result V Failure) → IfErr ended (HasToldFailure gives asked before old mid) → IfErr sent (λ failure. status_of failure < 4 → ended ≡ Err failure) →
+    pub sent_err : (ended sent : Result V CommandFault) → IfErr ended (HasToldFailure gives asked before old mid) → IfErr sent (λ failure. status_of failure < 4 → ended ≡ Err failure) →
         IfErr sent (HasToldFailure gives asked before old new)
     sent_err ended (Ok cut) h k = tt
     sent_err ended (Err failure) h k = λ low.
@@ -357,18 +357,18 @@ module _ (old mid new : Option (List ℕ)) (kept : Keeps mid new) where
         let t = told low in
         record { cause = t.cause; tells = t.tells; wrote = report_kept (report_in failure) t.wrote }
 
-pub sent_as_well : {V : Type 0} (A P : Type 0) (ended sent : Result V Failure) → IfOk ended (λ cut. P) → IfOk sent (λ cut. (ended ≡ Ok cut) × A) → IfOk sent (λ cut. P)
+pub sent_as_well : {V : Type 0} (A P : Type 0) (ended sent : Result V CommandFault) → IfOk ended (λ cut. P) → IfOk sent (λ cut. (ended ≡ Ok cut) × A) → IfOk sent (λ cut. P)
 sent_as_well A P ended (Ok cut) h k = rw k.0 at h
 sent_as_well A P ended (Err failure) h k = tt
 
 -- after success all was flushed
-pub sent_on : {V U E : Type 0} (P : Type 0) (ended sent : Result V Failure) (answer : Result U E) → IfOk sent (λ cut. (ended ≡ Ok cut) × IsOk answer) → OnOk answer P → IfOk sent (λ cut. P)
+pub sent_on : {V U E : Type 0} (P : Type 0) (ended sent : Result V CommandFault) (answer : Result U E) → IfOk sent (λ cut. (ended ≡ Ok cut) × IsOk answer) → OnOk answer P → IfOk sent (λ cut. P)
 sent_on P ended (Ok cut) (Ok u) k h = h
 sent_on P ended (Ok cut) (Err e) k h = absurd (let is_ok = k.1 in cc)
 sent_on P ended (Err failure) answer k h = tt
 
 -- the facts at an exit status from 1 to 3
-pub has_ended : {S V : Type 0} (gives : S → List ℕ → PlainInput → S → Type 0) (asked : Option Asked) (before after : S) (old new : Option (List ℕ)) (items : V → List (Bor (List ℕ))) (ended : Result V Failure) (status : ℕ) →
+pub has_ended : {S V : Type 0} (gives : S → List ℕ → PlainInput → S → Type 0) (asked : Option Asked) (before after : S) (old new : Option (List ℕ)) (items : V → List (Bor (List ℕ))) (ended : Result V CommandFault) (status : ℕ) →
     IfOk ended (λ cut. HasObeyed gives before after old new (texts_of (items cut)) asked) → IfErr ended (HasToldFailure gives asked before old new) →
     IfOk ended (λ cut. HasStatusOfCut status (items cut)) → IfErr ended (λ failure. status ≡ status_of failure) → 0 < status → status < 4 → HasEnded gives asked before after old new status
 has_ended gives asked before after old new items (Ok cut) status obeyed failed told other some few =
@@ -380,7 +380,7 @@ has_ended gives asked before after old new items (Ok cut) status obeyed failed t
     inl (is, ended_cut gives before after old new names asked (λ e. let nobody = ap length e in absurd (grind arith)) obeyed)
 has_ended gives asked before after old new items (Err failure) status obeyed failed told other some few = inr (failure, other, failed (omega (arith, few, other)))
 
-pub some_status : (failure : Failure) → 0 < status_of failure
+pub some_status : (failure : CommandFault) → 0 < status_of failure
 some_status (Specification fault) = omega arith
 some_status (Automaton fault) = omega arith
 some_status (Tables fault) = omega arith
@@ -398,7 +398,7 @@ none_cut status [] told is = refl
 none_cut status (x ∷ xs) told is = let three = told.some (omega arith) in absurd (omega (arith, is, three))
 
 -- the facts at exit status 0
-pub has_done : {S V : Type 0} (gives : S → List ℕ → PlainInput → S → Type 0) (asked : Option Asked) (before after : S) (old new : Option (List ℕ)) (items : V → List (Bor (List ℕ))) (ended : Result V Failure) (status : ℕ) →
+pub has_done : {S V : Type 0} (gives : S → List ℕ → PlainInput → S → Type 0) (asked : Option Asked) (before after : S) (old new : Option (List ℕ)) (items : V → List (Bor (List ℕ))) (ended : Result V CommandFault) (status : ℕ) →
     IfOk ended (λ cut. HasObeyed gives before after old new (texts_of (items cut)) asked) →
     IfOk ended (λ cut. HasStatusOfCut status (items cut)) → IfErr ended (λ failure. status ≡ status_of failure) → status ≡ 0 → IfSome asked (HasDone gives before after old new [])
 has_done gives None before after old new items ended status obeyed told other none = tt

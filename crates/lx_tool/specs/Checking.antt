@@ -15,7 +15,7 @@ use Rattle.lx_warnings.specs.declared.kinds.WarningKind.{WarningKind}
 use Rattle.lx_cli.specs.CommandLine.{PlainCheck}
 use Rattle.lx_tool.specs.Sources.{whole}
 use Rattle.lx_tool.specs.Statuses.{report_in}
-use Rattle.lx_tool.specs.declared.failure.Failure.{Failure}
+use Rattle.lx_tool.specs.declared.failure.CommandFault.{CommandFault}
 use Rattle.lx_tool.specs.declared.failure.RequestFault.{RequestFault}
 use Rattle.lx_tool.specs.declared.failure.RequestFault.TheVariants.{NoWarning}
 
@@ -93,7 +93,7 @@ pub record IsChecked {S : Type 0} (gives : S → List ℕ → PlainInput → S �
 
 -- The failure carries the report on the text: it is rejected, or has warnings that are errors, if those are asked for. Unless it is in JSON, the
 -- report begins with the verdict.
-pub record IsReported (check : PlainCheck) (text : List ℕ) (failure : Failure) : Type 0 where
+pub record IsReported (check : PlainCheck) (text : List ℕ) (failure : CommandFault) : Type 0 where
   pub report : Report
   pub of_text : IsReportOf check.most text report
   pub said : List ℕ

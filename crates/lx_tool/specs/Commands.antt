@@ -17,11 +17,11 @@ use Rattle.lx_tool.specs.Sources.{whole}
 use Rattle.lx_tool.specs.Statuses.{HidesNoMemory, WroteReport, status_of}
 use Rattle.lx_tool.specs.Printing.{AreKindsOfSpecificationRefused, AreKindsOfTablesRefused, IsPlaced, IsScannerFault, IsWritten, PrintsSpecification, PrintsTables}
 use Rattle.lx_tool.specs.Tabling.{AreTablesIn, AreTablesOfText, HasNoTables}
-use Rattle.lx_tool.specs.declared.failure.Failure.{Failure}
+use Rattle.lx_tool.specs.declared.failure.CommandFault.{CommandFault}
 use Rattle.lx_tool.specs.declared.failure.RequestFault.{RequestFault}
 use Rattle.lx_tool.specs.declared.failure.RequestFault.TheVariants.{NoTargets, Outputs}
 use Rattle.lx_tool.specs.declared.failure.OutputFault.{OutputFault}
-use Rattle.lx_tool.specs.declared.failure.Failure.TheVariants.{Specification, Automaton, Tables, Unprintable, Words, TooManyFiles, InputTwice, Refused, NotRead, Output, Memory}
+use Rattle.lx_tool.specs.declared.failure.CommandFault.TheVariants.{Specification, Automaton, Tables, Unprintable, Words, TooManyFiles, InputTwice, Refused, NotRead, Output, Memory}
 
 -- the specification and the file of the stored run
 abbrev pub stored_specification : List ℕ
@@ -147,7 +147,7 @@ pub record IsTextRefused {S : Type 0} (gives : S → List ℕ → PlainInput →
   pub refused : Refuses text
 
 -- the specification or the tables are rejected, or the word is unknown
-abbrev pub AreRulesRefused : {S : Type 0} → (S → List ℕ → PlainInput → S → Type 0) → S → Asked → Failure → Type 0
+abbrev pub AreRulesRefused : {S : Type 0} → (S → List ℕ → PlainInput → S → Type 0) → S → Asked → CommandFault → Type 0
 AreRulesRefused gives before stored failure = HasNoTables stored_specification failure
 AreRulesRefused gives before (run order) failure = IsTextRefused gives (λ text. HasNoTables text failure) order.rules before
 AreRulesRefused gives before (scan order) failure = IsTextRefused gives (λ text. IsNoTable text failure) order.rules before
@@ -159,7 +159,7 @@ AreRulesRefused gives before (show s) failure = IsTextRefused gives (λ text. Is
 AreRulesRefused gives before (imports i) failure = IsTextRefused gives (λ text. IsNotImported failure) i.rules before
 
 -- the arguments of a listing are rejected
-abbrev pub AreWordsRefused : PlainOrder → Failure → Type 0
+abbrev pub AreWordsRefused : PlainOrder → CommandFault → Type 0
 AreWordsRefused order failure =
     ((failure ≡ TooManyFiles) × (max_files < length order.files))
     ⊎ (((failure ≡ InputTwice) × (1 < input_uses order order.files))
@@ -175,7 +175,7 @@ pub record RulesGiven {S : Type 0} (gives : S → List ℕ → PlainInput → S 
   pub holds : Holds table between
 
 -- a listing was rejected once its specification or its tables were taken
-abbrev pub IsRefusedLater : {S : Type 0} → (S → List ℕ → PlainInput → S → Type 0) → S → Asked → Failure → Type 0
+abbrev pub IsRefusedLater : {S : Type 0} → (S → List ℕ → PlainInput → S → Type 0) → S → Asked → CommandFault → Type 0
 IsRefusedLater gives before stored failure = ⊥
 IsRefusedLater gives before (run order) failure = RulesGiven gives AreTablesOfText order before (λ table between. IsListingRefused gives order table between failure)
 IsRefusedLater gives before (scan order) failure = RulesGiven gives AreTablesIn order before (λ table between. IsListingRefused gives order table between failure)
@@ -191,7 +191,7 @@ abbrev pub IsTargetRefused : PlainPrint → RequestFault → Type 0
 IsTargetRefused print fault = ((fault ≡ NoTargets) × (print.target ≢ None)) ⊎ ((f : OutputFault) × (fault ≡ Outputs f) × IsOverwritten f print.target print.rules)
 
 -- the fault for which the text of tables isn't put into a file
-abbrev pub IsPlacingFault : Failure → Type 0
+abbrev pub IsPlacingFault : CommandFault → Type 0
 IsPlacingFault failure = (failure ≡ Refused NoTargets) ⊎ ((failure ≡ Output) ⊎ (failure ≡ Memory))
 
 -- the arguments for the form of a listing, for its files, for the file of `-o`, or for a scanner in C are rejected
@@ -207,7 +207,7 @@ IsFormRefused (show s) fault = ⊥
 IsFormRefused (imports i) fault = AreImportWordsRefused i fault
 
 -- the cause for which a request was not carried out
-abbrev pub HasCause : {S : Type 0} → (S → List ℕ → PlainInput → S → Type 0) → S → Asked → Failure → Type 0
+abbrev pub HasCause : {S : Type 0} → (S → List ℕ → PlainInput → S → Type 0) → S → Asked → CommandFault → Type 0
 HasCause gives before asked (Specification fault) = AreRulesRefused gives before asked (Specification fault)
 HasCause gives before asked (Automaton fault) = AreRulesRefused gives before asked (Automaton fault)
 HasCause gives before asked (Tables fault) = AreRulesRefused gives before asked (Tables fault)
@@ -234,26 +234,26 @@ pub record IsCutShort {S : Type 0} (gives : S → List ℕ → PlainInput → S 
   pub done : IsSomeAnd asked (HasDone gives before after old new cut)
 
 -- Nothing was written: the arguments make no request, or it was not carried out, for a cause that isn't the output or memory.
-pub record IsRefused {S : Type 0} (gives : S → List ℕ → PlainInput → S → Type 0) (asked : Option Asked) (before : S) (old new : Option (List ℕ)) (failure : Failure) : Type 0 where
+pub record IsRefused {S : Type 0} (gives : S → List ℕ → PlainInput → S → Type 0) (asked : Option Asked) (before : S) (old new : Option (List ℕ)) (failure : CommandFault) : Type 0 where
   pub cause : MatchOption asked (status_of failure ≡ 2) (λ a. HasCause gives before a failure)
   pub tells : HidesNoMemory failure
   pub kept : Keeps old new
 
 -- If a command failed for a cause that isn't the output or memory, it was rejected.
-abbrev pub HasFailed : {S : Type 0} → (S → List ℕ → PlainInput → S → Type 0) → Option Asked → S → Option (List ℕ) → Option (List ℕ) → Failure → Type 0
+abbrev pub HasFailed : {S : Type 0} → (S → List ℕ → PlainInput → S → Type 0) → Option Asked → S → Option (List ℕ) → Option (List ℕ) → CommandFault → Type 0
 HasFailed gives asked before old new failure = status_of failure < 4 → IsRefused gives asked before old new failure
 
 -- The request was not carried out, for a cause that isn't the output or memory. Only the report of `check` was written, if there is one.
-pub record IsTold {S : Type 0} (gives : S → List ℕ → PlainInput → S → Type 0) (asked : Option Asked) (before : S) (old new : Option (List ℕ)) (failure : Failure) : Type 0 where
+pub record IsTold {S : Type 0} (gives : S → List ℕ → PlainInput → S → Type 0) (asked : Option Asked) (before : S) (old new : Option (List ℕ)) (failure : CommandFault) : Type 0 where
   pub cause : MatchOption asked (status_of failure ≡ 2) (λ a. HasCause gives before a failure)
   pub tells : HidesNoMemory failure
   pub wrote : WroteReport failure old new
 
-abbrev pub HasToldFailure : {S : Type 0} → (S → List ℕ → PlainInput → S → Type 0) → Option Asked → S → Option (List ℕ) → Option (List ℕ) → Failure → Type 0
+abbrev pub HasToldFailure : {S : Type 0} → (S → List ℕ → PlainInput → S → Type 0) → Option Asked → S → Option (List ℕ) → Option (List ℕ) → CommandFault → Type 0
 HasToldFailure gives asked before old new failure = status_of failure < 4 → IsTold gives asked before old new failure
 
 -- The facts at an exit status from 1 to 3: a cut file, or the cause for which the arguments were rejected or not carried out.
 abbrev pub HasEnded : {S : Type 0} → (S → List ℕ → PlainInput → S → Type 0) → Option Asked → S → S → Option (List ℕ) → Option (List ℕ) → ℕ → Type 0
 HasEnded gives asked before after old new status =
     ((status ≡ 3) × IsCutShort gives asked before after old new)
-    ⊎ ((failure : Failure) × (status ≡ status_of failure) × IsTold gives asked before old new failure)
+    ⊎ ((failure : CommandFault) × (status ≡ status_of failure) × IsTold gives asked before old new failure)

@@ -2,8 +2,8 @@
 use Rattle.std.specs.Prelude.{◌≡◌, ◌≢◌, Option, None, true, nat_eq, IfSome, List, ℕ}
 use Rattle.std.specs.Io.KnownBytes.{Appends}
 use Rattle.std.specs.List.{starts_with}
-use Rattle.lx_tool.specs.declared.failure.Failure.{Failure}
-use Rattle.lx_tool.specs.declared.failure.Failure.TheVariants.{Unprintable}
+use Rattle.lx_tool.specs.declared.failure.CommandFault.{CommandFault}
+use Rattle.lx_tool.specs.declared.failure.CommandFault.TheVariants.{Unprintable}
 use Rattle.lx_tool.specs.declared.failure.PrintFault.TheVariants.{Unexplained}
 
 -- Something was written; if a word is given, it begins with that.
@@ -13,5 +13,5 @@ pub record IsExplained (word : Option (List ℕ)) (old new : Option (List ℕ)) 
   pub begins : IfSome word (λ w. starts_with nat_eq said w ≡ true)
 
 -- The word is unknown.
-abbrev pub IsUnexplained : Option (List ℕ) → Failure → Type 0
+abbrev pub IsUnexplained : Option (List ℕ) → CommandFault → Type 0
 IsUnexplained word failure = (failure ≡ Unprintable Unexplained) × (word ≢ None)

@@ -6,8 +6,8 @@ use Rattle.lx_tables.specs.Reading.{IsNoText}
 use Rattle.lx_tables.specs.declared.fault.TableFault.TheVariants as table
 use Rattle.lx_tool.specs.Planning.{AreBytes}
 use Rattle.lx_tool.specs.Sources.{AreGiven, cut_names}
-use Rattle.lx_tool.specs.declared.failure.Failure.{Failure}
-use Rattle.lx_tool.specs.declared.failure.Failure.TheVariants.{Specification, Automaton, Tables, Unprintable, Words, TooManyFiles, InputTwice, Refused, NotRead, Output, Memory}
+use Rattle.lx_tool.specs.declared.failure.CommandFault.{CommandFault}
+use Rattle.lx_tool.specs.declared.failure.CommandFault.TheVariants.{Specification, Automaton, Tables, Unprintable, Words, TooManyFiles, InputTwice, Refused, NotRead, Output, Memory}
 
 -- The sources gave these inputs for these names, in this order; `cut` names those that were cut short.
 pub record AreRead {S : Type 0} (gives : S → List ℕ → PlainInput → S → Type 0) (names : List (List ℕ)) (before after : S) (inputs : List PlainInput) (cut : List (List ℕ)) : Type 0 where
@@ -34,7 +34,7 @@ abbrev pub ListsGiven : {S : Type 0} → (S → List ℕ → PlainInput → S �
 ListsGiven gives Lists names before after old new cut = AreListed gives (λ inputs. Lists inputs old new) names before after cut
 
 -- one of the files with these names can't be opened, or an allocation failed
-abbrev pub IsUnread : List (List ℕ) → Failure → Type 0
+abbrev pub IsUnread : List (List ℕ) → CommandFault → Type 0
 IsUnread names (Specification fault) = ⊥
 IsUnread names (Automaton fault) = ⊥
 IsUnread names (Tables fault) = ⊥
@@ -48,7 +48,7 @@ IsUnread names Output = ⊥
 IsUnread names Memory = ⊤
 
 -- the cause for which a text is no table's, or a failed allocation
-abbrev pub IsNoTable : List ℕ → Failure → Type 0
+abbrev pub IsNoTable : List ℕ → CommandFault → Type 0
 IsNoTable text (Specification fault) = ⊥
 IsNoTable text (Automaton fault) = ⊥
 IsNoTable text (Tables fault) = (fault ≡ table.NoTables) × IsNoText text
@@ -68,7 +68,7 @@ pub record IsUntouched {S : Type 0} (before after : S) (old new : Option (List �
 
 -- A listing fails in four ways. The text that files are listed by was rejected, by `Cause`, before a file was read. A file can't be opened, and
 -- nothing was written. The output failed after a prefix, by `Part`. An allocation failed, and nothing was written or a prefix.
-abbrev pub FailsListing : {S : Type 0} → (Failure → Type 0) → Type 0 → List (List ℕ) → S → S → Option (List ℕ) → Option (List ℕ) → Failure → Type 0
+abbrev pub FailsListing : {S : Type 0} → (CommandFault → Type 0) → Type 0 → List (List ℕ) → S → S → Option (List ℕ) → Option (List ℕ) → CommandFault → Type 0
 FailsListing Cause Part names before after old new (Specification fault) = Cause (Specification fault) × IsUntouched before after old new
 FailsListing Cause Part names before after old new (Automaton fault) = Cause (Automaton fault) × IsUntouched before after old new
 FailsListing Cause Part names before after old new (Tables fault) = Cause (Tables fault) × IsUntouched before after old new
@@ -82,7 +82,7 @@ FailsListing Cause Part names before after old new Output = Part
 FailsListing Cause Part names before after old new Memory = Keeps old new ⊎ Part
 
 -- That listing failed: the part that was written, if any, is one by `ListsPrefix`.
-abbrev pub FailsGiven : {S : Type 0} → (S → List ℕ → PlainInput → S → Type 0) → (Failure → Type 0) → (List PlainInput → Option (List ℕ) → Option (List ℕ) → Type 0) → List (List ℕ) → S → S →
-    Option (List ℕ) → Option (List ℕ) → Failure → Type 0
+abbrev pub FailsGiven : {S : Type 0} → (S → List ℕ → PlainInput → S → Type 0) → (CommandFault → Type 0) → (List PlainInput → Option (List ℕ) → Option (List ℕ) → Type 0) → List (List ℕ) → S → S →
+    Option (List ℕ) → Option (List ℕ) → CommandFault → Type 0
 FailsGiven gives Cause ListsPrefix names before after old new failure =
     FailsListing Cause (ArePartlyListed gives (λ inputs. ListsPrefix inputs old new) names before after) names before after old new failure

@@ -9,8 +9,8 @@ use Rattle.lx_tool.specs.Outputs.{AreImportsApart, AreOutputsOfImportRefused}
 use Rattle.lx_tool.specs.Printing.{IsPlaced, IsScannerFault, IsWritten}
 use Rattle.lx_tool.specs.Sources.{whole}
 use Rattle.lx_tool.specs.Tabling.{AreTablesOfText}
-use Rattle.lx_tool.specs.declared.failure.Failure.{Failure}
-use Rattle.lx_tool.specs.declared.failure.Failure.TheVariants.{Unprintable, Output, Memory, Refused}
+use Rattle.lx_tool.specs.declared.failure.CommandFault.{CommandFault}
+use Rattle.lx_tool.specs.declared.failure.CommandFault.TheVariants.{Unprintable, Output, Memory, Refused}
 use Rattle.lx_tool.specs.declared.failure.PrintFault.TheVariants.{NotImported}
 use Rattle.lx_tool.specs.declared.failure.RequestFault.{RequestFault}
 use Rattle.lx_tool.specs.declared.failure.RequestFault.TheVariants.{NoTargets, Outputs}
@@ -57,7 +57,7 @@ pub record HasPlacedImport {S T : Type 0} (gives : S → List ℕ → PlainInput
   pub second : IsPlaced places i.target printed between new
 
 -- a text isn't written: the output failed, an allocation failed, or there is a file for it and none can be made
-abbrev pub IsUnplaced : Option (List ℕ) → Failure → Type 0
+abbrev pub IsUnplaced : Option (List ℕ) → CommandFault → Type 0
 IsUnplaced target failure = (failure ≡ Output) ⊎ ((failure ≡ Memory) ⊎ ((failure ≡ Refused NoTargets) × (target ≢ None)))
 
 -- files are asked for, and none can be made; or they are the input or one another; or the prefix is rejected
@@ -65,5 +65,5 @@ abbrev pub AreImportWordsRefused : PlainImport → RequestFault → Type 0
 AreImportWordsRefused i fault = ((fault ≡ NoTargets) × ((i.actions ≢ None) ⊎ (i.target ≢ None))) ⊎ (((f : OutputFault) × (fault ≡ Outputs f) × AreOutputsOfImportRefused i f) ⊎ IsScannerFault (kinds_words i) fault)
 
 -- the flex specification can't be imported
-abbrev pub IsNotImported : Failure → Type 0
+abbrev pub IsNotImported : CommandFault → Type 0
 IsNotImported failure = failure ≡ Unprintable NotImported

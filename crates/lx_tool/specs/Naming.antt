@@ -14,8 +14,8 @@ use Rattle.lx_forms.specs.declared.choosing.ChoiceFault.{ChoiceFault}
 use Rattle.lx_tool.specs.Names.{name_bytes}
 use Rattle.lx_tool.specs.Sources.{whole}
 use Rattle.lx_tool.specs.Statuses.{failure_of_choice}
-use Rattle.lx_tool.specs.declared.failure.Failure.{Failure}
-use Rattle.lx_tool.specs.declared.failure.Failure.TheVariants.{Specification, Automaton, Tables, Unprintable, Words, TooManyFiles, InputTwice, Refused, NotRead, Output, Memory}
+use Rattle.lx_tool.specs.declared.failure.CommandFault.{CommandFault}
+use Rattle.lx_tool.specs.declared.failure.CommandFault.TheVariants.{Specification, Automaton, Tables, Unprintable, Words, TooManyFiles, InputTwice, Refused, NotRead, Output, Memory}
 use Rattle.lx_tool.specs.declared.failure.RequestFault.{RequestFault}
 use Rattle.lx_tool.specs.declared.failure.RequestFault.TheVariants.{NoKind, EmptyKind, NoFormat, NoFile, NoName, NoScanner, NoTargets, NoWarning, Outputs, Scanner, ScannerAndHeader, NumberTooLarge}
 
@@ -137,7 +137,7 @@ abbrev pub IsListTooLong : {S : Type 0} → (S → List ℕ → PlainInput → S
 IsListTooLong gives order before = IsSomeAnd order.list (λ l. ListSays gives l before (λ text. HasMoreNames l.separator text (max_files - length order.files)))
 
 -- the cause for which a listing is rejected before its first line, given its tables: its form, its names, or a file that can't be read
-abbrev pub IsListingRefused : {S : Type 0} → (S → List ℕ → PlainInput → S → Type 0) → PlainOrder → Table → S → Failure → Type 0
+abbrev pub IsListingRefused : {S : Type 0} → (S → List ℕ → PlainInput → S → Type 0) → PlainOrder → Table → S → CommandFault → Type 0
 IsListingRefused gives order table before (Specification fault) = ⊥
 IsListingRefused gives order table before (Automaton fault) = ⊥
 IsListingRefused gives order table before (Tables fault) = ⊥
@@ -169,14 +169,14 @@ IsFormatFault words (Scanner f) = ⊥
 IsFormatFault words NumberTooLarge = ⊥
 
 -- these names of files are rejected
-abbrev pub AreNamesRefused : PlainOrder → List (List ℕ) → Failure → Type 0
+abbrev pub AreNamesRefused : PlainOrder → List (List ℕ) → CommandFault → Type 0
 AreNamesRefused order names failure =
     ((failure ≡ Refused NoFile) × (names ≡ []))
     ⊎ (((failure ≡ InputTwice) × (1 < input_uses order names))
     ⊎ ((failure ≡ Refused NumberTooLarge) × (max_number + 1 < order.form.first + length names)))
 
 -- LIST can't be read, or its names are rejected, or an allocation failed
-abbrev pub IsListRefused : {S : Type 0} → (S → List ℕ → PlainInput → S → Type 0) → PlainList → List (List ℕ) → S → Failure → Type 0
+abbrev pub IsListRefused : {S : Type 0} → (S → List ℕ → PlainInput → S → Type 0) → PlainList → List (List ℕ) → S → CommandFault → Type 0
 IsListRefused gives list files before failure =
     (failure ≡ Memory)
     ⊎ (((name : _) × (failure ≡ NotRead name) × (name.now ≡ list.name))
@@ -184,9 +184,9 @@ IsListRefused gives list files before failure =
     ⊎ ((line : ℕ) × (name : _) × (failure ≡ Refused (NoName line name)) × (name.now ≡ list.name) × ListSays gives list before (λ text. IsNoName list.separator text line))))
 
 -- so are the names of the files
-abbrev pub AreNamesUnread : {S : Type 0} → (S → List ℕ → PlainInput → S → Type 0) → PlainOrder → S → Failure → Type 0
+abbrev pub AreNamesUnread : {S : Type 0} → (S → List ℕ → PlainInput → S → Type 0) → PlainOrder → S → CommandFault → Type 0
 AreNamesUnread gives order before failure = (failure ≡ Memory) ⊎ IsSomeAnd order.list (λ list. IsListRefused gives list order.files before failure)
 
 -- `--only` is rejected, or an allocation failed
-abbrev pub IsOnlyRefused : Table → Option (List ℕ) → Failure → Type 0
+abbrev pub IsOnlyRefused : Table → Option (List ℕ) → CommandFault → Type 0
 IsOnlyRefused table only failure = IsSomeAnd only (λ text. (fault : ChoiceFault) × (failure ≡ failure_of_choice fault) × IsRefusedChoice table text fault)

@@ -2,8 +2,8 @@
 use Rattle.std.specs.Prelude.{◌≡◌, ◌⊎◌, ⊤, ℕ, Bool, false, List, Option, Some, MatchOption, codes}
 use Rattle.std.specs.Borrow.{Bor}
 use Rattle.lx_cli.specs.CommandLine.{PlainImport}
-use Rattle.lx_tool.specs.declared.failure.Failure.{Failure}
-use Rattle.lx_tool.specs.declared.failure.Failure.TheVariants.{Memory, Refused}
+use Rattle.lx_tool.specs.declared.failure.CommandFault.{CommandFault}
+use Rattle.lx_tool.specs.declared.failure.CommandFault.TheVariants.{Memory, Refused}
 use Rattle.lx_tool.specs.declared.failure.OutputFault.{OutputFault}
 use Rattle.lx_tool.specs.declared.failure.OutputFault.TheVariants.{ActionsOnOutput, Overwritten, Same}
 use Rattle.lx_tool.specs.declared.failure.RequestFault.TheVariants.{Outputs}
@@ -48,5 +48,5 @@ AreOutputsOfImportRefused i fault =
     ⊎ ((fault ≡ ActionsOnOutput) × (i.actions ≡ Some (codes "-")))))
 
 -- Arguments are rejected for such a fault, or an allocation failed.
-abbrev pub IsRefusedFor : (OutputFault → Type 0) → Failure → Type 0
+abbrev pub IsRefusedFor : (OutputFault → Type 0) → CommandFault → Type 0
 IsRefusedFor Is failure = (failure ≡ Memory) ⊎ ((fault : OutputFault) × (failure ≡ Refused (Outputs fault)) × Is fault)

@@ -17,8 +17,8 @@ use Rattle.lx_c.specs.declared.fault.KindFault.{KindFault}
 use Rattle.lx_c.specs.declared.fault.KindFault.TheVariants as kind
 use Rattle.lx_c.specs.declared.fault.OptionFault.{OptionFault}
 use Rattle.lx_cli.specs.CommandLine.{PlainC}
-use Rattle.lx_tool.specs.declared.failure.Failure.{Failure}
-use Rattle.lx_tool.specs.declared.failure.Failure.TheVariants.{Unprintable, Memory, Refused}
+use Rattle.lx_tool.specs.declared.failure.CommandFault.{CommandFault}
+use Rattle.lx_tool.specs.declared.failure.CommandFault.TheVariants.{Unprintable, Memory, Refused}
 use Rattle.lx_tool.specs.declared.failure.PrintFault.{PrintFault}
 use Rattle.lx_tool.specs.declared.failure.PrintFault.TheVariants.{Numbers, Reserved, Declared, TooManyForCode}
 use Rattle.lx_tool.specs.declared.failure.RequestFault.{RequestFault}
@@ -46,7 +46,7 @@ IsScannerFault c fault =
     ⊎ ((f : OptionFault) × (fault ≡ Scanner f) × (Some f ≡ option_fault (options_by c))))
 
 -- They are rejected, or an allocation failed.
-abbrev pub AreScannerWordsRefused : PlainC → Failure → Type 0
+abbrev pub AreScannerWordsRefused : PlainC → CommandFault → Type 0
 AreScannerWordsRefused c failure = (failure ≡ Memory) ⊎ ((fault : RequestFault) × (failure ≡ Refused fault) × IsScannerFault c fault)
 
 -- ---- the text
@@ -114,27 +114,27 @@ IsToldAs table (kind.Declared number) told = (name : Vec ℕ Global) × (told �
 IsToldAs table (kind.States states) told = told ≡ TooManyForCode states
 IsToldAs table kind.Memory told = ⊥
 
-pub record AreKindsRefused (c : PlainC) (o : Options) (table : Table) (failure : Failure) : Type 0 where
+pub record AreKindsRefused (c : PlainC) (o : Options) (table : Table) (failure : CommandFault) : Type 0 where
   pub fault : KindFault
   pub is : kinds_fault c o table ≡ Some fault
   pub told : PrintFault
   pub answers : failure ≡ Unprintable told
   pub told_as : IsToldAs table fault told
 
-pub record AreKindsOfSpecificationRefused (c : PlainC) (text : List ℕ) (failure : Failure) : Type 0 where
+pub record AreKindsOfSpecificationRefused (c : PlainC) (text : List ℕ) (failure : CommandFault) : Type 0 where
   pub spec : PlainSpec
   pub read : IsRead text spec
   pub table : Table
   pub of_spec : AreTablesOf spec table
   pub refused : AreKindsRefused c (named (options_by c) (condition_names spec)) table failure
 
-pub record AreKindsOfTablesRefused (c : PlainC) (text : List ℕ) (failure : Failure) : Type 0 where
+pub record AreKindsOfTablesRefused (c : PlainC) (text : List ℕ) (failure : CommandFault) : Type 0 where
   pub table : Table
   pub is_table : IsTable table
   pub of_text : IsTextOf table text
   pub refused : AreKindsRefused c (named (options_by c) []) table failure
 
 -- Nothing was written: no files can be made and one is asked for, or the kinds were rejected.
-pub record FailsPrinting (c : PlainC) (o : Options) (table : Table) (target : Option (List ℕ)) (old new : Option (List ℕ)) (failure : Failure) : Type 0 where
+pub record FailsPrinting (c : PlainC) (o : Options) (table : Table) (target : Option (List ℕ)) (old new : Option (List ℕ)) (failure : CommandFault) : Type 0 where
   pub kept : Keeps old new
   pub cause : ((failure ≡ Refused NoTargets) × (target ≢ None)) ⊎ AreKindsRefused c o table failure

@@ -13,8 +13,8 @@ use Rattle.lx_tool.specs.Given.{IsNoTable}
 use Rattle.lx_tool.specs.Printing.{condition_names}
 use Rattle.lx_tool.specs.Sources.{whole}
 use Rattle.lx_tool.specs.Tabling.{AreTablesIn, HasNoTables}
-use Rattle.lx_tool.specs.declared.failure.Failure.{Failure}
-use Rattle.lx_tool.specs.declared.failure.Failure.TheVariants.{Unprintable}
+use Rattle.lx_tool.specs.declared.failure.CommandFault.{CommandFault}
+use Rattle.lx_tool.specs.declared.failure.CommandFault.TheVariants.{Unprintable}
 use Rattle.lx_tool.specs.declared.failure.PrintFault.TheVariants.{TooManyStates}
 
 -- the greatest number of states that are shown, unless all are asked for
@@ -39,25 +39,25 @@ AreShown text table names =
     ⊎ ((begins_as_tables text ≡ false) × AreShownOfSpecification text table names)
 
 -- The text has none.
-abbrev pub HasNoneShown : List ℕ → Failure → Type 0
+abbrev pub HasNoneShown : List ℕ → CommandFault → Type 0
 HasNoneShown text failure =
     ((begins_as_tables text ≡ true) × IsNoTable text failure)
     ⊎ ((begins_as_tables text ≡ false) × HasNoTables text failure)
 
 -- they have more states than are shown
-pub record HasManyStates (all : Bool) (table : Table) (failure : Failure) : Type 0 where
+pub record HasManyStates (all : Bool) (table : Table) (failure : CommandFault) : Type 0 where
   pub fewer_asked : all ≡ false
   pub many : max_shown < state_count table.machine
   pub told : failure ≡ Unprintable (TooManyStates (state_count table.machine))
 
-pub record IsTooLargeToShow (all : Bool) (text : List ℕ) (failure : Failure) : Type 0 where
+pub record IsTooLargeToShow (all : Bool) (text : List ℕ) (failure : CommandFault) : Type 0 where
   pub table : Table
   pub names : List (List ℕ)
   pub shown : AreShown text table names
   pub many : HasManyStates all table failure
 
 -- the cause for which nothing is shown of a text
-abbrev pub IsNotShown : PlainShow → List ℕ → Failure → Type 0
+abbrev pub IsNotShown : PlainShow → List ℕ → CommandFault → Type 0
 IsNotShown show text failure = HasNoneShown text failure ⊎ IsTooLargeToShow show.all text failure
 
 -- They gave the text that the arguments name, whole, and its graph was written.

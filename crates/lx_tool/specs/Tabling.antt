@@ -8,8 +8,8 @@ use Rattle.lx_auto.specs.declared.fault.BuildFault.TheVariants as build
 use Rattle.lx_auto.specs.TooLarge.{HasTooManyPositions, HasTooManySets}
 use Rattle.lx_tables.specs.Model.{Table, IsTable, AreTablesOf}
 use Rattle.lx_tables.specs.Reading.{IsTextOf}
-use Rattle.lx_tool.specs.declared.failure.Failure.{Failure}
-use Rattle.lx_tool.specs.declared.failure.Failure.TheVariants.{Specification, Automaton, Tables, Unprintable, Words, TooManyFiles, InputTwice, Refused, NotRead, Output, Memory}
+use Rattle.lx_tool.specs.declared.failure.CommandFault.{CommandFault}
+use Rattle.lx_tool.specs.declared.failure.CommandFault.TheVariants.{Specification, Automaton, Tables, Unprintable, Words, TooManyFiles, InputTwice, Refused, NotRead, Output, Memory}
 
 -- Tables of the text's specification.
 pub record AreTablesOfText (text : List ℕ) (tables : Table) : Type 0 where
@@ -30,7 +30,7 @@ pub record IsTooLarge (text : List ℕ) (fault : BuildFault) : Type 0 where
   pub sets : fault ≡ build.TooManySets → HasTooManySets spec
 
 -- the cause for which a text has no tables: its fault, or a failed allocation
-abbrev pub HasNoTables : List ℕ → Failure → Type 0
+abbrev pub HasNoTables : List ℕ → CommandFault → Type 0
 HasNoTables text (Specification fault) = (fault.code ≢ code.Memory) × IsFault text fault
 HasNoTables text (Automaton fault) = IsTooLarge text fault
 HasNoTables text (Tables fault) = ⊥

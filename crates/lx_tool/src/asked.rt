@@ -11,15 +11,15 @@ ghost use Rattle.lx_tool.specs.Naming.{AreFileNames, AreJudged, AreListNames, Ar
 ghost use Rattle.lx_tool.specs.Sources.{texts_of};
 ghost use Rattle.lx_tool.specs.Statuses.{HidesNoMemory, status_of};
 
-use crate::failure::{Failure, RequestFault};
+use crate::failure::{CommandFault, RequestFault};
 use crate::given::{read_given, read_name_list};
 use crate::names::bytes_of_names;
 use crate::planning::list_files_in;
+use crate::session::Session;
 use crate::source::{STANDARD_INPUT, Sources};
 use crate::suggesting::note_kinds;
 use lx_cli::{FormWords, ListRequest, ListWords};
 use lx_forms::{ChoiceFault, Form, Format, NameListFault, Selection, choose, push_names};
-use lx_listing::LineWrites;
 use lx_piece::MAX_FILES;
 use lx_tables::Tables;
 use std::alloc::{AllocError, Global};
@@ -81,41 +81,41 @@ fn judge_format<'a>(words: &FormWords<'a>) -> Result<(), RequestFault<'a>>
 }
 
 /// Rejects arguments that ask for too many files, for none, for standard input twice, or for an unknown format.
-pub(crate) fn judge_words<'a>(order: &ListRequest<'a>) -> Result<(), Failure<'a>>
+pub(crate) fn judge_words<'a>(order: &ListRequest<'a>) -> Result<(), CommandFault<'a>>
     ensures ok { OnOk result (length order.now.files.items ≤ max_files) }
     ensures format { OnOk result (IsKnownFormat (plain_order order.now).form.format) }
     ensures err { IfErr result (λ failure. AreWordsRefused (plain_order order.now) failure) }
 {
     if order.files.len() > MAX_FILES {
-        return Err(Failure::TooManyFiles);
+        return Err(CommandFault::TooManyFiles);
     }
     if order.files.is_empty() && order.list.is_none() {
-        return Err(Failure::Refused(RequestFault::NoFile));
+        return Err(CommandFault::Refused(RequestFault::NoFile));
     }
     if is_input_twice(order, &order.files) {
-        return Err(Failure::InputTwice);
+        return Err(CommandFault::InputTwice);
     }
     match judge_format(&order.form) {
         Ok(()) => Ok(()),
-        Err(fault) => Err(Failure::Refused(fault)),
+        Err(fault) => Err(CommandFault::Refused(fault)),
     }
 }
 
 // Rejects an empty list of names, standard input named twice, and numbers that are too large.
-fn judge_names<'a>(order: &ListRequest<'a>, names: &[&str]) -> Result<(), Failure<'a>>
+fn judge_names<'a>(order: &ListRequest<'a>, names: &[&str]) -> Result<(), CommandFault<'a>>
     requires few { length names.now ≤ max_files }
     requires format { IsKnownFormat (plain_order order.now).form.format }
     ensures ok { OnOk result (AreJudged (plain_order order.now) (texts_of names.now)) }
     ensures err { IfErr result (AreNamesRefused (plain_order order.now) (texts_of names.now)) }
 {
     if names.is_empty() {
-        return Err(Failure::Refused(RequestFault::NoFile));
+        return Err(CommandFault::Refused(RequestFault::NoFile));
     }
     if is_input_twice(order, names) {
-        return Err(Failure::InputTwice);
+        return Err(CommandFault::InputTwice);
     }
     if u64::from(order.form.first) + names.len() as u64 > NUMBERS {
-        return Err(Failure::Refused(RequestFault::NumberTooLarge));
+        return Err(CommandFault::Refused(RequestFault::NumberTooLarge));
     }
     Ok(())
 }
@@ -127,7 +127,7 @@ fn push_listed<'a, S: Sources>(
     list: ListWords<'a>,
     sources: &mut S,
     text: &'a mut Vec<u8>,
-) -> Result<(), Failure<'a>>
+) -> Result<(), CommandFault<'a>>
     requires { vec_len names.old ≤ max_files }
     ensures ok { OnOk result (AreListNames S.gives (plain_list list.entry)
         (texts_of names.old.items) sources.old sources.new (texts_of names.new.items)) }
@@ -139,12 +139,12 @@ fn push_listed<'a, S: Sources>(
     *text = read_name_list(alloc, sources, list.name, list.separator, most)?;
     match push_names(names, text, list.separator, MAX_FILES) {
         Ok(()) => Ok(()),
-        Err(NameListFault::NoName(line)) => Err(Failure::Refused(RequestFault::NoName {
+        Err(NameListFault::NoName(line)) => Err(CommandFault::Refused(RequestFault::NoName {
             line,
             list: list.name,
         })),
-        Err(NameListFault::TooMany) => Err(Failure::TooManyFiles),
-        Err(NameListFault::Memory) => Err(Failure::Memory),
+        Err(NameListFault::TooMany) => Err(CommandFault::TooManyFiles),
+        Err(NameListFault::Memory) => Err(CommandFault::Memory),
     }
 }
 
@@ -154,7 +154,7 @@ fn names_of<'a, S: Sources>(
     order: &ListRequest<'a>,
     sources: &mut S,
     text: &'a mut Vec<u8>,
-) -> Result<Vec<&'a str>, Failure<'a>>
+) -> Result<Vec<&'a str>, CommandFault<'a>>
     requires { length order.now.files.items ≤ max_files }
     ensures ok { IfOk result (λ names.
         AreFileNames S.gives (plain_order order.now) sources.old sources.new
@@ -175,7 +175,7 @@ fn selection_of<'a>(
     tables: &Tables,
     only: Option<&'a str>,
     notes: &mut Vec<u8>,
-) -> Result<Option<Selection>, Failure<'a>>
+) -> Result<Option<Selection>, CommandFault<'a>>
     ensures ok { IfOk result
         (λ selection. IsOnly tables.now (option_map (λ text. text.now) only.entry) selection) }
     ensures err { IfErr result
@@ -190,7 +190,7 @@ fn selection_of<'a>(
             if let ChoiceFault::NoKind(word) = fault {
                 note_kinds(notes, tables, word);
             }
-            Err(Failure::from(fault))
+            Err(CommandFault::from(fault))
         }
     }
 }
@@ -238,16 +238,14 @@ fn form_of<'f>(words: &FormWords<'_>, names: &'f [Vec<u8>], only: Option<Selecti
 /// Lists the files that the arguments and the list of files name, by the tables, in the form that the arguments ask for. Reads all files before it
 /// writes the first line. Keeps the text of the list of files in `text`. Returns the names of the files that were cut short.
 pub(crate) fn list_asked<'a, R: Threads + Wait + Sync, S: Sources, O: Write>(
-    rt: &R,
-    alloc: Global,
+    session: &Session<'_, R>,
     tables: Tables,
     order: &ListRequest<'a>,
     sources: &mut S,
     text: &'a mut Vec<u8>,
     notes: &mut Vec<u8>,
-    writes: LineWrites,
     out: &mut O,
-) -> Result<Vec<&'a str>, Failure<'a>>
+) -> Result<Vec<&'a str>, CommandFault<'a>>
     requires few { length order.now.files.items ≤ max_files }
     requires format { IsKnownFormat (plain_order order.now).form.format }
     ensures ok { IfOk result (λ cut.
@@ -258,6 +256,7 @@ pub(crate) fn list_asked<'a, R: Threads + Wait + Sync, S: Sources, O: Write>(
         → IsListingRefused S.gives (plain_order order.now) tables sources.old failure
         × HidesNoMemory failure × Keeps (O.contents out.old) (O.contents out.new)) }
 {
+    let alloc = session.alloc;
     let only = selection_of(alloc, &tables, order.form.only, notes)?;
     let names = names_of(alloc, order, sources, text)?;
     judge_names(order, &names)?;
@@ -265,14 +264,14 @@ pub(crate) fn list_asked<'a, R: Threads + Wait + Sync, S: Sources, O: Write>(
     let shown = names_asked(alloc, &order.form, &names)?;
     let form = form_of(&order.form, &shown, only);
     list_files_in(
-        rt,
+        session.rt,
         alloc,
         tables,
         given.files,
         order.per_piece,
         order.workers,
         &form,
-        writes,
+        session.writes,
         out,
     )?;
     Ok(given.cut)

@@ -10,7 +10,7 @@ ghost use Rattle.lx_tool.specs.Checking.{IsAccepted, IsAcceptedText, IsReported,
 ghost use Rattle.lx_tool.specs.Switching.{AreKindsAsked, IsAskedBehind, IsSwitched};
 ghost use Rattle.lx_tool.specs.Commands.{HasDone, HasFailed};
 
-use crate::failure::{Failure, PrintFault, RequestFault};
+use crate::failure::{CommandFault, PrintFault, RequestFault};
 use crate::given::read_whole;
 use crate::output::write_text;
 use crate::source::Sources;
@@ -81,12 +81,12 @@ fn with_word(asked: Asked, word: &str) -> Option<Asked>
     with_kind_word(asked, word.as_bytes())
 }
 
-fn warnings_asked<'a>(words: &CheckWords<'a>) -> Result<Asked, Failure<'a>>
+fn warnings_asked<'a>(words: &CheckWords<'a>) -> Result<Asked, CommandFault<'a>>
     ensures errors { IfOk result
         (λ asked. asked.are_errors ≡ has_error (plain_check words.now).warnings) }
     ensures kinds { IfOk result (λ asked. AreKindsAsked (plain_check words.now) asked.kinds) }
     ensures err { IfErr result (λ failure.
-        (fault : RequestFault) × (failure ≡ Failure.Refused fault) × IsWarningFault fault) }
+        (fault : RequestFault) × (failure ≡ CommandFault.Refused fault) × IsWarningFault fault) }
 {
     let mut warnings = Asked {
         kinds: KindSet::usual(),
@@ -95,7 +95,7 @@ fn warnings_asked<'a>(words: &CheckWords<'a>) -> Result<Asked, Failure<'a>>
     for word in &words.warnings {
         match with_word(warnings, word) {
             Some(new) => warnings = new,
-            None => return Err(Failure::Refused(RequestFault::NoWarning(word))),
+            None => return Err(CommandFault::Refused(RequestFault::NoWarning(word))),
         }
     }
     Ok(warnings)
@@ -159,22 +159,22 @@ fn said_of<'a>(
     words: &CheckWords<'_>,
     warnings: Asked,
     text: &[u8],
-) -> Result<Vec<u8>, Failure<'a>>
+) -> Result<Vec<u8>, CommandFault<'a>>
     requires errors { warnings.are_errors ≡ has_error (plain_check words.now).warnings }
     requires kinds { AreKindsAsked (plain_check words.now) warnings.kinds }
     ensures ok { IfOk result (λ _. IsAcceptedText words.now.most text.now) }
     ensures tells { IfOk result
         (λ said. words.now.json ≡ false → TellsAccepted (plain_check words.now) said.items) }
     ensures err { IfErr result (λ failure.
-        (failure ≡ Failure.Memory) ⊎ IsReported (plain_check words.now) text.now failure) }
+        (failure ≡ CommandFault.Memory) ⊎ IsReported (plain_check words.now) text.now failure) }
 {
     let report = check(alloc, text, usize::from(words.most))?;
     let said = said_by(alloc, words, warnings, text, &report)?;
     if is_refused(&report) {
-        return Err(Failure::Unprintable(PrintFault::Reported(said.text)));
+        return Err(CommandFault::Unprintable(PrintFault::Reported(said.text)));
     }
     if has_errors(warnings.are_errors, said.warnings) {
-        return Err(Failure::Unprintable(PrintFault::Reported(said.text)));
+        return Err(CommandFault::Unprintable(PrintFault::Reported(said.text)));
     }
     Ok(said.text)
 }
@@ -185,7 +185,7 @@ pub(crate) fn check_named<'a, S: Sources, O: Write>(
     words: &CheckWords<'a>,
     sources: &mut S,
     out: &mut O,
-) -> Result<(), Failure<'a>>
+) -> Result<(), CommandFault<'a>>
     ensures ok { OnOk result (HasDone S.gives sources.old sources.new (O.contents out.old)
         (O.contents out.new) [] (check-asked (plain_check words.now))) }
     ensures err { IfErr result (HasFailed S.gives (Some (check-asked (plain_check words.now)))

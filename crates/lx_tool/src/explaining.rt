@@ -7,7 +7,7 @@ ghost use Rattle.lx_tool.specs.Explaining.{IsExplained, IsUnexplained};
 ghost use Rattle.lx_tool.specs.Statuses.{status_of};
 ghost use Rattle.lx_tool.specs.declared.failure.PrintFault.TheVariants.{Unexplained};
 
-use crate::failure::{Failure, PrintFault};
+use crate::failure::{CommandFault, PrintFault};
 use crate::output::write_text;
 use crate::suggesting::note_topics;
 use lx_diagnose::{all_topics, explain};
@@ -45,16 +45,16 @@ fn line_of(alloc: Global, said: &str) -> Result<Vec<u8>, AllocError>
 }
 
 // Returns the explanation of the word. If there is none, suggests the nearest word in `notes`.
-fn said_of<'a>(alloc: Global, word: &str, notes: &mut Vec<u8>) -> Result<Vec<u8>, Failure<'a>>
+fn said_of<'a>(alloc: Global, word: &str, notes: &mut Vec<u8>) -> Result<Vec<u8>, CommandFault<'a>>
     ensures ok { IfOk result (λ said. starts_with nat_eq said.items word.now ≡ true) }
     ensures err { IfErr result
-        (λ failure. (failure ≡ Failure.Unprintable Unexplained) ⊎ (failure ≡ Failure.Memory)) }
+        (λ failure. (failure ≡ CommandFault.Unprintable Unexplained) ⊎ (failure ≡ CommandFault.Memory)) }
 {
     match explain(word) {
         Some(said) => Ok(line_of(alloc, said)?),
         None => {
             note_topics(notes, word);
-            Err(Failure::Unprintable(PrintFault::Unexplained))
+            Err(CommandFault::Unprintable(PrintFault::Unexplained))
         }
     }
 }
@@ -65,7 +65,7 @@ pub(crate) fn explain_named<'a, O: Write>(
     word: Option<&'a str>,
     notes: &mut Vec<u8>,
     out: &mut O,
-) -> Result<(), Failure<'a>>
+) -> Result<(), CommandFault<'a>>
     ensures ok { OnOk result (IsExplained (option_map (λ w. w.now) word.entry) (O.contents out.old)
         (O.contents out.new)) }
     ensures err { IfErr result (λ failure.

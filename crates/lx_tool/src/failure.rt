@@ -143,7 +143,7 @@ fn text_of(name: &[u8]) -> &str {
 
 /// Reason why a command fails. Its text is the line on stderr.
 #[derive(Debug, Drop, Error)]
-pub enum Failure<'a> {
+pub enum CommandFault<'a> {
     /// The text of a specification is rejected.
     #[error("lx: {0}")]
     Specification(SpecFault),
@@ -179,23 +179,23 @@ pub enum Failure<'a> {
     Memory,
 }
 
-impl Failure<'_> {
+impl CommandFault<'_> {
     /// Returns the report that goes to the output.
     pub(crate) fn report(&self) -> Option<&[u8]>
         ensures { option_map (λ report. report.now) result ≡ report_in self.now }
     {
         match self {
-            Failure::Unprintable(fault) => fault.report(),
-            Failure::Specification(_)
-            | Failure::Automaton(_)
-            | Failure::Tables(_)
-            | Failure::Words(_)
-            | Failure::TooManyFiles
-            | Failure::InputTwice
-            | Failure::Refused(_)
-            | Failure::NotRead(_)
-            | Failure::Output
-            | Failure::Memory => None,
+            CommandFault::Unprintable(fault) => fault.report(),
+            CommandFault::Specification(_)
+            | CommandFault::Automaton(_)
+            | CommandFault::Tables(_)
+            | CommandFault::Words(_)
+            | CommandFault::TooManyFiles
+            | CommandFault::InputTwice
+            | CommandFault::Refused(_)
+            | CommandFault::NotRead(_)
+            | CommandFault::Output
+            | CommandFault::Memory => None,
         }
     }
 
@@ -204,115 +204,117 @@ impl Failure<'_> {
         ensures { result ≡ status_of self.now }
     {
         match self {
-            Failure::Specification(_)
-            | Failure::Automaton(_)
-            | Failure::Tables(_)
-            | Failure::Unprintable(_) => 1,
-            Failure::Words(_) | Failure::TooManyFiles | Failure::InputTwice | Failure::Refused(_) =>
-                2,
-            Failure::NotRead(_) => 3,
-            Failure::Output => 4,
-            Failure::Memory => 5,
+            CommandFault::Specification(_)
+            | CommandFault::Automaton(_)
+            | CommandFault::Tables(_)
+            | CommandFault::Unprintable(_) => 1,
+            CommandFault::Words(_)
+            | CommandFault::TooManyFiles
+            | CommandFault::InputTwice
+            | CommandFault::Refused(_) => 2,
+            CommandFault::NotRead(_) => 3,
+            CommandFault::Output => 4,
+            CommandFault::Memory => 5,
         }
     }
 }
 
-impl From<AllocError> for Failure<'_> {
-    ghost use Rattle.lx_tool.specs.declared.failure.Failure.{Failure};
+impl From<AllocError> for CommandFault<'_> {
+    ghost use Rattle.lx_tool.specs.declared.failure.CommandFault.{CommandFault};
 
-    ghost from_gives = { λ _ failure. failure ≡ Failure.Memory };
+    ghost from_gives = { λ _ failure. failure ≡ CommandFault.Memory };
 
     fn from(_error: AllocError) -> Self {
-        Failure::Memory
+        CommandFault::Memory
     }
 }
 
-impl<T: Drop> From<AllocFailed<T>> for Failure<'_> {
-    ghost use Rattle.lx_tool.specs.declared.failure.Failure.{Failure};
+impl<T: Drop> From<AllocFailed<T>> for CommandFault<'_> {
+    ghost use Rattle.lx_tool.specs.declared.failure.CommandFault.{CommandFault};
 
-    ghost from_gives = { λ _ failure. failure ≡ Failure.Memory };
+    ghost from_gives = { λ _ failure. failure ≡ CommandFault.Memory };
 
     fn from(_error: AllocFailed<T>) -> Self {
-        Failure::Memory
+        CommandFault::Memory
     }
 }
 
-impl From<RunFault> for Failure<'_> {
+impl From<RunFault> for CommandFault<'_> {
     ghost use Rattle.lx_tool.specs.Statuses.{failure_of_run};
 
     ghost from_gives = { λ fault failure. failure ≡ failure_of_run fault };
 
     fn from(fault: RunFault) -> Self {
         match fault {
-            RunFault::Memory => Failure::Memory,
-            RunFault::Reader => Failure::Output,
+            RunFault::Memory => CommandFault::Memory,
+            RunFault::Reader => CommandFault::Output,
         }
     }
 }
 
-impl<'a> From<ChoiceFault<'a>> for Failure<'a> {
+impl<'a> From<ChoiceFault<'a>> for CommandFault<'a> {
     ghost use Rattle.lx_tool.specs.Statuses.{failure_of_choice};
 
     ghost from_gives = { λ fault failure. failure ≡ failure_of_choice fault };
 
     fn from(fault: ChoiceFault<'a>) -> Self {
         match fault {
-            ChoiceFault::NoKind(word) => Failure::Refused(RequestFault::NoKind(word)),
-            ChoiceFault::NoName => Failure::Refused(RequestFault::EmptyKind),
-            ChoiceFault::Memory => Failure::Memory,
+            ChoiceFault::NoKind(word) => CommandFault::Refused(RequestFault::NoKind(word)),
+            ChoiceFault::NoName => CommandFault::Refused(RequestFault::EmptyKind),
+            ChoiceFault::Memory => CommandFault::Memory,
         }
     }
 }
 
-impl From<TargetFault> for Failure<'_> {
+impl From<TargetFault> for CommandFault<'_> {
     ghost use Rattle.lx_tool.specs.Statuses.{failure_of_target};
 
     ghost from_gives = { λ fault failure. failure ≡ failure_of_target fault };
 
     fn from(fault: TargetFault) -> Self {
         match fault {
-            TargetFault::NotServed => Failure::Refused(RequestFault::NoTargets),
-            TargetFault::NotWritten => Failure::Output,
-            TargetFault::Memory => Failure::Memory,
+            TargetFault::NotServed => CommandFault::Refused(RequestFault::NoTargets),
+            TargetFault::NotWritten => CommandFault::Output,
+            TargetFault::Memory => CommandFault::Memory,
         }
     }
 }
 
-impl From<SpecFault> for Failure<'_> {
+impl From<SpecFault> for CommandFault<'_> {
     ghost use Rattle.lx_tool.specs.Statuses.{AnswersFault};
 
     ghost from_gives = { λ fault failure. AnswersFault fault failure };
 
     fn from(fault: SpecFault) -> Self {
         match fault.code {
-            Code::Memory => Failure::Memory,
-            _ => Failure::Specification(fault),
+            Code::Memory => CommandFault::Memory,
+            _ => CommandFault::Specification(fault),
         }
     }
 }
 
-impl From<BuildFault> for Failure<'_> {
+impl From<BuildFault> for CommandFault<'_> {
     ghost use Rattle.lx_tool.specs.Statuses.{failure_of_build};
 
     ghost from_gives = { λ fault failure. failure ≡ failure_of_build fault };
 
     fn from(fault: BuildFault) -> Self {
         match fault {
-            BuildFault::Memory => Failure::Memory,
-            _ => Failure::Automaton(fault),
+            BuildFault::Memory => CommandFault::Memory,
+            _ => CommandFault::Automaton(fault),
         }
     }
 }
 
-impl From<TableFault> for Failure<'_> {
+impl From<TableFault> for CommandFault<'_> {
     ghost use Rattle.lx_tool.specs.Statuses.{failure_of_table};
 
     ghost from_gives = { λ fault failure. failure ≡ failure_of_table fault };
 
     fn from(fault: TableFault) -> Self {
         match fault {
-            TableFault::Memory => Failure::Memory,
-            TableFault::NoTables => Failure::Tables(fault),
+            TableFault::Memory => CommandFault::Memory,
+            TableFault::NoTables => CommandFault::Tables(fault),
         }
     }
 }

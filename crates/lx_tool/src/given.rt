@@ -7,7 +7,7 @@ ghost use Rattle.lx_tool.specs.Planning.{AreBytes, ListsBy, ListsPrefixBy, Lists
 ghost use Rattle.lx_tool.specs.Sources.{AreGiven, GivesFront, cut_names, texts_of, whole};
 ghost use Rattle.lx_tool.specs.Tabling.{HasNoTables};
 
-use crate::failure::Failure;
+use crate::failure::CommandFault;
 use crate::planning::list_files;
 use crate::source::{SourceFault, Sources};
 use crate::tabling::{read_tables, tables_of_text};
@@ -30,7 +30,7 @@ fn read_file<'a, S: Sources>(
     alloc: Global,
     sources: &mut S,
     name: &'a str,
-) -> Result<Input, Failure<'a>>
+) -> Result<Input, CommandFault<'a>>
     ensures ok { IfOk result
         (λ input. S.gives sources.old name.now (input_view input) sources.new) }
     ensures bytes { IfOk result (λ input. All (λ b. b < 256) input.bytes.items) }
@@ -41,8 +41,8 @@ fn read_file<'a, S: Sources>(
             are_bytes(&input.bytes);
             Ok(input)
         }
-        Err(SourceFault::NotRead) => Err(Failure::NotRead(name)),
-        Err(SourceFault::Memory) => Err(Failure::Memory),
+        Err(SourceFault::NotRead) => Err(CommandFault::NotRead(name)),
+        Err(SourceFault::Memory) => Err(CommandFault::Memory),
     }
 }
 
@@ -51,13 +51,13 @@ pub(crate) fn read_whole<'a, S: Sources>(
     alloc: Global,
     sources: &mut S,
     name: &'a str,
-) -> Result<Vec<u8>, Failure<'a>>
+) -> Result<Vec<u8>, CommandFault<'a>>
     ensures ok { IfOk result (λ text. S.gives sources.old name.now (whole text.items) sources.new) }
     ensures err { IfErr result (λ failure. IsUnread (name.now ∷ []) failure) }
 {
     let input = read_file(alloc, sources, name)?;
     if input.cut {
-        return Err(Failure::NotRead(name));
+        return Err(CommandFault::NotRead(name));
     }
     Ok(input.bytes)
 }
@@ -69,7 +69,7 @@ pub(crate) fn read_name_list<'a, S: Sources>(
     name: &'a str,
     separator: u8,
     most: usize,
-) -> Result<Vec<u8>, Failure<'a>>
+) -> Result<Vec<u8>, CommandFault<'a>>
     ensures ok { IfOk result (λ front.
         GivesFront S.gives sources.old name.now separator most (whole front.items)
         sources.new) }
@@ -78,12 +78,12 @@ pub(crate) fn read_name_list<'a, S: Sources>(
     match sources.read_names(alloc, name, separator, most) {
         Ok(input) => {
             if input.cut {
-                return Err(Failure::NotRead(name));
+                return Err(CommandFault::NotRead(name));
             }
             Ok(input.bytes)
         }
-        Err(SourceFault::NotRead) => Err(Failure::NotRead(name)),
-        Err(SourceFault::Memory) => Err(Failure::Memory),
+        Err(SourceFault::NotRead) => Err(CommandFault::NotRead(name)),
+        Err(SourceFault::Memory) => Err(CommandFault::Memory),
     }
 }
 
@@ -93,7 +93,7 @@ fn read_files<'a, S: Sources>(
     alloc: Global,
     sources: &mut S,
     names: &[&'a str],
-) -> Result<Vec<Input>, Failure<'a>>
+) -> Result<Vec<Input>, CommandFault<'a>>
     ensures ok { IfOk result (λ files.
         AreGiven S.gives sources.old (texts_of names.now) (map input_view files.items)
         sources.new) }
@@ -140,7 +140,7 @@ pub(crate) fn read_given<'a, S: Sources>(
     alloc: Global,
     sources: &mut S,
     names: &[&'a str],
-) -> Result<Given<'a>, Failure<'a>>
+) -> Result<Given<'a>, CommandFault<'a>>
     ensures ok { IfOk result (λ given.
         AreRead S.gives (texts_of names.now) sources.old sources.new
         (map input_view given.files.items) (texts_of given.cut.items)) }
@@ -163,7 +163,7 @@ fn list_given<'a, T: Threads + Wait + Sync, S: Sources, W: Write>(
     sources: &mut S,
     writes: LineWrites,
     out: &mut W,
-) -> Result<Vec<&'a str>, Failure<'a>>
+) -> Result<Vec<&'a str>, CommandFault<'a>>
     requires few_files { length names.now ≤ max_files }
     requires some_items { 0 < per_piece }
     requires few_items { per_piece ≤ max_items }
@@ -205,7 +205,7 @@ pub fn list_by_specification<'a, T: Threads + Wait + Sync, S: Sources, W: Write>
     sources: &mut S,
     writes: LineWrites,
     out: &mut W,
-) -> Result<Vec<&'a str>, Failure<'a>>
+) -> Result<Vec<&'a str>, CommandFault<'a>>
     requires few_files { length names.now ≤ max_files }
     requires some_items { 0 < per_piece }
     requires few_items { per_piece ≤ max_items }
@@ -235,7 +235,7 @@ pub fn list_by_tables<'a, T: Threads + Wait + Sync, S: Sources, W: Write>(
     sources: &mut S,
     writes: LineWrites,
     out: &mut W,
-) -> Result<Vec<&'a str>, Failure<'a>>
+) -> Result<Vec<&'a str>, CommandFault<'a>>
     requires few_files { length names.now ≤ max_files }
     requires some_items { 0 < per_piece }
     requires few_items { per_piece ≤ max_items }

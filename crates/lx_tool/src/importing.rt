@@ -10,7 +10,7 @@ ghost use Rattle.lx_tool.specs.Statuses.{status_of};
 ghost use Rattle.lx_tool.specs.Tabling.{AreTablesOfText};
 ghost use Rattle.lx_tool.specs.declared.failure.PrintFault.TheVariants.{NotImported};
 
-use crate::failure::{Failure, PrintFault};
+use crate::failure::{CommandFault, PrintFault};
 use crate::given::read_whole;
 use crate::output::write_text;
 use crate::outputs::judge_outputs_of_import;
@@ -20,8 +20,8 @@ use crate::tabling::{specification_of, unjoined_tables_of};
 use crate::target::Targets;
 use lx_auto::BuildFault;
 use lx_cli::{CWords, ImportWords};
-use lx_diagnose::{to_do, words_of};
-use lx_flex::{Fault, Imported, Options, Report, import};
+use lx_diagnose::{advice_of, words_of};
+use lx_flex::{ImportFault, ImportOptions, ImportReport, Imported, import};
 use lx_tables::Tables;
 use std::alloc::{AllocError, Global};
 use std::io::Write;
@@ -40,7 +40,7 @@ fn scanner_words<'a>(words: &ImportWords<'a>) -> CWords<'a>
 }
 
 // Appends a line of the report: its place in the file, its severity, and what to do.
-fn push_report(notes: &mut Vec<u8>, name: &str, report: &Report) -> Result<(), AllocError> {
+fn push_report(notes: &mut Vec<u8>, name: &str, report: &ImportReport) -> Result<(), AllocError> {
     let weight = if report.fatal { "error" } else { "warning" };
     let written = if 0 < report.line {
         writeln!(notes, "{name}:{}: {weight}: {}", report.line, report.cause)
@@ -51,7 +51,11 @@ fn push_report(notes: &mut Vec<u8>, name: &str, report: &Report) -> Result<(), A
     written.map_err(|_| AllocError)
 }
 
-fn push_reports(notes: &mut Vec<u8>, name: &str, reports: &[Report]) -> Result<(), AllocError> {
+fn push_reports(
+    notes: &mut Vec<u8>,
+    name: &str,
+    reports: &[ImportReport],
+) -> Result<(), AllocError> {
     for report in reports {
         push_report(notes, name, report)?;
     }
@@ -59,7 +63,7 @@ fn push_reports(notes: &mut Vec<u8>, name: &str, reports: &[Report]) -> Result<(
 }
 
 // Makes the tables of the printed text as `gen` does.
-fn tables_printed<'a>(alloc: Global, printed: &[u8]) -> Result<Tables, Failure<'a>>
+fn tables_printed<'a>(alloc: Global, printed: &[u8]) -> Result<Tables, CommandFault<'a>>
     ensures { IfOk result (λ tables. AreTablesOfText printed.now tables) }
 {
     let spec = specification_of(alloc, printed)?;
@@ -75,15 +79,19 @@ fn size_code(fault: BuildFault) -> &'static str {
 }
 
 // Appends a line on why the printed text has no tables: its automaton is too large. No line of the file is at fault.
-fn push_verdict(notes: &mut Vec<u8>, name: &str, failure: &Failure<'_>) -> Result<(), AllocError> {
+fn push_verdict(
+    notes: &mut Vec<u8>,
+    name: &str,
+    failure: &CommandFault<'_>,
+) -> Result<(), AllocError> {
     let written = match failure {
-        Failure::Automaton(fault) => {
+        CommandFault::Automaton(fault) => {
             let code = size_code(*fault);
             writeln!(
                 notes,
                 "{name}: error: {code}: {}; write {}",
                 words_of(code),
-                to_do(code)
+                advice_of(code)
             )
         }
         other => writeln!(notes, "{name}: error: {other}"),
@@ -98,17 +106,17 @@ fn judge_printed<'a>(
     name: &str,
     printed: &[u8],
     notes: &mut Vec<u8>,
-) -> Result<(), Failure<'a>>
+) -> Result<(), CommandFault<'a>>
     ensures ok { OnOk result (HasTables printed.now) }
     ensures err { IfErr result
-        (λ failure. (failure ≡ Failure.Memory) ⊎ (failure ≡ Failure.Unprintable NotImported)) }
+        (λ failure. (failure ≡ CommandFault.Memory) ⊎ (failure ≡ CommandFault.Unprintable NotImported)) }
 {
     match tables_printed(alloc, printed) {
         Ok(_tables) => Ok(()),
-        Err(Failure::Memory) => Err(Failure::Memory),
+        Err(CommandFault::Memory) => Err(CommandFault::Memory),
         Err(failure) => {
             push_verdict(notes, name, &failure)?;
-            Err(Failure::Unprintable(PrintFault::NotImported))
+            Err(CommandFault::Unprintable(PrintFault::NotImported))
         }
     }
 }
@@ -120,12 +128,12 @@ fn imported_of<'a>(
     prefix: &str,
     text: &[u8],
     notes: &mut Vec<u8>,
-) -> Result<Imported, Failure<'a>>
+) -> Result<Imported, CommandFault<'a>>
     ensures ok { IfOk result (λ imported. IsOfFlex imported.specification.items) }
     ensures err { IfErr result
-        (λ failure. (failure ≡ Failure.Memory) ⊎ (failure ≡ Failure.Unprintable NotImported)) }
+        (λ failure. (failure ≡ CommandFault.Memory) ⊎ (failure ≡ CommandFault.Unprintable NotImported)) }
 {
-    let options = Options {
+    let options = ImportOptions {
         lossy: words.lossy,
         prefix: prefix.as_bytes(),
         file: words.rules.as_bytes(),
@@ -136,11 +144,11 @@ fn imported_of<'a>(
             judge_printed(alloc, words.rules, &imported.specification, notes)?;
             Ok(imported)
         }
-        Err(Fault::Refused(reports)) => {
+        Err(ImportFault::Refused(reports)) => {
             push_reports(notes, words.rules, &reports)?;
-            Err(Failure::Unprintable(PrintFault::NotImported))
+            Err(CommandFault::Unprintable(PrintFault::NotImported))
         }
-        Err(Fault::Memory) => Err(Failure::Memory),
+        Err(ImportFault::Memory) => Err(CommandFault::Memory),
     }
 }
 
@@ -149,7 +157,7 @@ fn place_text<'a, T: Targets>(
     target: Option<&str>,
     text: &[u8],
     targets: &mut T,
-) -> Result<(), Failure<'a>>
+) -> Result<(), CommandFault<'a>>
     ensures ok { OnOk result (IsPlaced T.places (option_map (λ name. name.now) target.entry)
         text.now targets.old targets.new) }
     ensures err { IfErr result (IsUnplaced (option_map (λ name. name.now) target.entry)) }
@@ -169,7 +177,7 @@ fn write_or_place<'a, T: Targets, O: Write>(
     text: &[u8],
     targets: &mut T,
     out: &mut O,
-) -> Result<(), Failure<'a>>
+) -> Result<(), CommandFault<'a>>
     ensures ok { OnOk result (IsWritten (option_map (λ name. name.now) target.entry) text.now
         (O.contents out.old) (O.contents out.new)) }
     ensures placed { OnOk result (IsPlaced T.places (option_map (λ name. name.now) target.entry)
@@ -192,7 +200,7 @@ pub(crate) fn import_named<'a, S: Sources, T: Targets, O: Write>(
     targets: &mut T,
     notes: &mut Vec<u8>,
     out: &mut O,
-) -> Result<(), Failure<'a>>
+) -> Result<(), CommandFault<'a>>
     ensures ok { OnOk result (HasDone S.gives sources.old sources.new (O.contents out.old)
         (O.contents out.new) [] (imports (plain_import words.now))) }
     ensures placed { OnOk result (HasPlaced S.gives T.places T.same sources.old targets.old

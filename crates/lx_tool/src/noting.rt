@@ -5,7 +5,7 @@ ghost use Rattle.lx_cli.specs.CommandLine.{plain_c, plain_print};
 ghost use Rattle.lx_tool.specs.Printing.{FailsPrinting, PlacesTables, WritesTables};
 ghost use Rattle.lx_tool.specs.Statuses.{status_of};
 
-use crate::failure::{Failure, PrintFault};
+use crate::failure::{CommandFault, PrintFault};
 use crate::printing::print_asked;
 use crate::target::Targets;
 use lx_c::Options;
@@ -66,8 +66,8 @@ fn rule_of_greatest(spec: &Spec) -> Option<&Rule> {
 }
 
 // Adds a line on the rule that returns the kind which C doesn't allow. Leaves the line out if an allocation fails.
-fn note_kind(name: &str, spec: &Spec, failure: &Failure<'_>, notes: &mut Vec<u8>) {
-    let Failure::Unprintable(fault) = failure else {
+fn note_kind(name: &str, spec: &Spec, failure: &CommandFault<'_>, notes: &mut Vec<u8>) {
+    let CommandFault::Unprintable(fault) = failure else {
         return;
     };
     let (rule, words) = match fault {
@@ -97,7 +97,7 @@ pub(crate) fn print_noted<'a, T: Targets, O: Write>(
     targets: &mut T,
     notes: &mut Vec<u8>,
     out: &mut O,
-) -> Result<(), Failure<'a>>
+) -> Result<(), CommandFault<'a>>
     ensures ok { OnOk result (WritesTables (plain_c words.now.c) options.now tables.now
         (plain_print words.now).target (O.contents out.old) (O.contents out.new)) }
     ensures placed { OnOk result (PlacesTables T.places (plain_c words.now.c) options.now tables.now

@@ -3,7 +3,7 @@
 ghost use Rattle.std.specs.Prelude.{◌≡◌, IfErr, OnOk};
 ghost use Rattle.std.specs.Io.KnownBytes.{Appends, Keeps};
 
-use crate::failure::Failure;
+use crate::failure::CommandFault;
 use std::io::{self, Write};
 
 /// An output that can flush all that it holds. It may know that its other end was closed, such as a pipe whose reader has gone.
@@ -23,9 +23,9 @@ pub trait Output: Write {
 }
 
 /// Writes a text.
-pub(crate) fn write_text<'a, O: Write>(text: &[u8], out: &mut O) -> Result<(), Failure<'a>>
+pub(crate) fn write_text<'a, O: Write>(text: &[u8], out: &mut O) -> Result<(), CommandFault<'a>>
     ensures ok { OnOk result (Appends (O.contents out.old) (O.contents out.new) text.now) }
-    ensures err { IfErr result (λ failure. failure ≡ Failure.Output) }
+    ensures err { IfErr result (λ failure. failure ≡ CommandFault.Output) }
 {
-    out.write_all(text).map_err(|_| Failure::Output)
+    out.write_all(text).map_err(|_| CommandFault::Output)
 }

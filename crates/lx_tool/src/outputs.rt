@@ -5,17 +5,17 @@ ghost use Rattle.lx_cli.specs.CommandLine.{plain_import};
 ghost use Rattle.lx_tool.specs.Outputs.{AreApart, AreImportsApart, AreOutputsOfImportRefused, IsApart, IsOverwritten, IsRefusedFor};
 ghost use Rattle.lx_tool.specs.declared.failure.RequestFault.TheVariants.{Outputs};
 
-use crate::failure::{Failure, OutputFault, RequestFault};
+use crate::failure::{CommandFault, OutputFault, RequestFault};
 use crate::target::Targets;
 use lx_cli::ImportWords;
 
 // The name of standard output.
 const STANDARD_OUTPUT: &str = "-";
 
-fn refusal<'a>(fault: OutputFault<'a>) -> Failure<'a>
-    ensures { result ≡ Failure.Refused (Outputs fault.entry) }
+fn refusal<'a>(fault: OutputFault<'a>) -> CommandFault<'a>
+    ensures { result ≡ CommandFault.Refused (Outputs fault.entry) }
 {
-    Failure::Refused(RequestFault::Outputs(fault))
+    CommandFault::Refused(RequestFault::Outputs(fault))
 }
 
 /// Rejects the file of an option if it is the input, which it would overwrite.
@@ -24,7 +24,7 @@ pub(crate) fn judge_output<'a, T: Targets>(
     option: char,
     output: Option<&'a str>,
     input: &'a str,
-) -> Result<(), Failure<'a>>
+) -> Result<(), CommandFault<'a>>
     ensures ok { OnOk result
         (IsApart T.same targets.now (option_map (λ name. name.now) output.entry) input.now) }
     ensures err { IfErr result (IsRefusedFor
@@ -44,7 +44,7 @@ pub(crate) fn judge_output<'a, T: Targets>(
 }
 
 // Rejects the files of `-o` and `-c` if they are the same.
-fn judge_both<'a, T: Targets>(targets: &T, words: &ImportWords<'a>) -> Result<(), Failure<'a>>
+fn judge_both<'a, T: Targets>(targets: &T, words: &ImportWords<'a>) -> Result<(), CommandFault<'a>>
     ensures ok { OnOk result (AreApart T.same targets.now (plain_import words.now)) }
     ensures err { IfErr result (IsRefusedFor (AreOutputsOfImportRefused (plain_import words.now))) }
 {
@@ -61,7 +61,7 @@ fn judge_both<'a, T: Targets>(targets: &T, words: &ImportWords<'a>) -> Result<()
 pub(crate) fn judge_outputs_of_import<'a, T: Targets>(
     targets: &T,
     words: &ImportWords<'a>,
-) -> Result<(), Failure<'a>>
+) -> Result<(), CommandFault<'a>>
     ensures ok { OnOk result (AreImportsApart T.same targets.now (plain_import words.now)) }
     ensures err { IfErr result (IsRefusedFor (AreOutputsOfImportRefused (plain_import words.now))) }
 {

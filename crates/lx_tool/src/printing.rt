@@ -11,7 +11,7 @@ ghost use Rattle.lx_tool.specs.Commands.{IsPlacingFault};
 ghost use Rattle.lx_tool.specs.Printing.{AreKindsRefused, AreScannerWordsRefused, FailsPrinting, IsToldAs, PlacesTables, WritesTables, are_scanner_words, condition_names, is_in_c, kind_named, kinds_fault, options_by, printed_text};
 ghost use Rattle.lx_tool.specs.Statuses.{status_of};
 
-use crate::failure::{Failure, PrintFault, RequestFault};
+use crate::failure::{CommandFault, PrintFault, RequestFault};
 use crate::output::write_text;
 use crate::target::Targets;
 use lx_c::{KindFault, Options, header_of, judge, scanner_of};
@@ -51,7 +51,7 @@ pub(crate) fn prefix_of<'a>(words: &CWords<'a>) -> &'a str
 }
 
 // Returns the options of a C scanner, without the names of its conditions.
-fn options_of<'a>(alloc: Global, words: &CWords<'a>) -> Result<Options, Failure<'a>>
+fn options_of<'a>(alloc: Global, words: &CWords<'a>) -> Result<Options, CommandFault<'a>>
     ensures ok { IfOk result (λ options. options ≡ options_by (plain_c words.now)) }
     ensures err { IfErr result (AreScannerWordsRefused (plain_c words.now)) }
 {
@@ -59,7 +59,7 @@ fn options_of<'a>(alloc: Global, words: &CWords<'a>) -> Result<Options, Failure<
     let include = bytes_of(alloc, words.include)?;
     match Options::of(prefix, Vec::new(alloc), include) {
         Ok(options) => Ok(options.directly(words.direct)),
-        Err(fault) => Err(Failure::Refused(RequestFault::Scanner(fault))),
+        Err(fault) => Err(CommandFault::Refused(RequestFault::Scanner(fault))),
     }
 }
 
@@ -67,16 +67,16 @@ fn options_of<'a>(alloc: Global, words: &CWords<'a>) -> Result<Options, Failure<
 pub(crate) fn judge_scanner_words<'a>(
     alloc: Global,
     words: &CWords<'a>,
-) -> Result<Options, Failure<'a>>
+) -> Result<Options, CommandFault<'a>>
     ensures ok { IfOk result (λ options. options ≡ options_by (plain_c words.now)) }
     ensures asked { IfOk result (λ options. IsTrue (are_scanner_words (plain_c words.now))) }
     ensures err { IfErr result (AreScannerWordsRefused (plain_c words.now)) }
 {
     if words.scanner && words.header {
-        return Err(Failure::Refused(RequestFault::ScannerAndHeader));
+        return Err(CommandFault::Refused(RequestFault::ScannerAndHeader));
     }
     if !is_in_c(words) && (words.prefix.is_some() || (words.include.is_some() || words.direct)) {
-        return Err(Failure::Refused(RequestFault::NoScanner));
+        return Err(CommandFault::Refused(RequestFault::NoScanner));
     }
     options_of(alloc, words)
 }
@@ -98,7 +98,7 @@ pub(crate) fn named_options<'a>(
     alloc: Global,
     words: &CWords<'a>,
     spec: &Spec,
-) -> Result<Options, Failure<'a>>
+) -> Result<Options, CommandFault<'a>>
     ensures ok { IfOk result (λ options.
         options
         ≡ named (options_by (plain_c words.now)) (condition_names (spec_view spec.now))) }
@@ -121,7 +121,11 @@ fn kind_named(alloc: Global, tables: &Tables, number: u32) -> Result<Vec<u8>, Al
 }
 
 // Converts the fault of kinds to the fault that is reported.
-fn told_of(alloc: Global, tables: &Tables, fault: KindFault) -> Result<PrintFault, AllocError>
+fn reported_fault(
+    alloc: Global,
+    tables: &Tables,
+    fault: KindFault,
+) -> Result<PrintFault, AllocError>
     ensures { IfOk result (IsToldAs tables.now fault) }
 {
     match fault {
@@ -139,10 +143,10 @@ fn judge_kinds<'a>(
     words: &CWords<'_>,
     options: &Options,
     tables: &Tables,
-) -> Result<(), Failure<'a>>
+) -> Result<(), CommandFault<'a>>
     ensures ok { OnOk result (kinds_fault (plain_c words.now) options.now tables.now ≡ None) }
     ensures err { IfErr result (λ failure.
-        (failure ≡ Failure.Memory)
+        (failure ≡ CommandFault.Memory)
         ⊎ AreKindsRefused (plain_c words.now) options.now tables.now failure) }
 {
     if !is_in_c(words) {
@@ -150,7 +154,7 @@ fn judge_kinds<'a>(
     }
     match judge(alloc, tables, options) {
         Ok(()) => Ok(()),
-        Err(fault) => Err(Failure::Unprintable(told_of(alloc, tables, fault)?)),
+        Err(fault) => Err(CommandFault::Unprintable(reported_fault(alloc, tables, fault)?)),
     }
 }
 
@@ -178,9 +182,9 @@ fn printed_text(
     }
 }
 
-fn write_printed<'a, O: Write>(text: &[u8], out: &mut O) -> Result<(), Failure<'a>>
+fn write_printed<'a, O: Write>(text: &[u8], out: &mut O) -> Result<(), CommandFault<'a>>
     ensures ok { OnOk result (Wrote (O.contents out.old) (O.contents out.new) text.now) }
-    ensures err { IfErr result (λ failure. failure ≡ Failure.Output) }
+    ensures err { IfErr result (λ failure. failure ≡ CommandFault.Output) }
 {
     write_text(text, out)
 }
@@ -189,7 +193,7 @@ fn place_printed<'a, T: Targets>(
     target: &str,
     text: &[u8],
     targets: &mut T,
-) -> Result<(), Failure<'a>>
+) -> Result<(), CommandFault<'a>>
     ensures ok { OnOk result (T.places targets.old target.now text.now targets.new) }
     ensures err { IfErr result IsPlacingFault }
 {
@@ -205,7 +209,7 @@ pub(crate) fn print_asked<'a, T: Targets, O: Write>(
     tables: &Tables,
     targets: &mut T,
     out: &mut O,
-) -> Result<(), Failure<'a>>
+) -> Result<(), CommandFault<'a>>
     ensures ok { OnOk result (WritesTables (plain_c words.now.c) options.now tables.now
         (plain_print words.now).target (O.contents out.old) (O.contents out.new)) }
     ensures placed { OnOk result (PlacesTables T.places (plain_c words.now.c) options.now tables.now

@@ -13,7 +13,7 @@ ghost use Rattle.lx_tool.specs.Tabling.{HasNoTables};
 use crate::asked::{judge_words, list_asked};
 use crate::checking::check_named;
 use crate::explaining::explain_named;
-use crate::failure::{Failure, PrintFault, RequestFault};
+use crate::failure::{CommandFault, PrintFault, RequestFault};
 use crate::given::read_whole;
 use crate::importing::import_named;
 use crate::noting::print_noted;
@@ -22,13 +22,14 @@ use crate::outputs::judge_output;
 use crate::planning::{list_files, listings_are_by_rules};
 use crate::printing::{judge_scanner_words, named_options, print_asked};
 use crate::remarks::{read_tables_named, specification_named, tables_named, tell_size};
+use crate::session::Session;
 use crate::showing::show_named;
 use crate::source::{Sources, make_input};
 use crate::suggesting::{tell_formats, tell_warnings};
 use crate::tabling::{tables_of_text, unjoined_tables_of};
 use crate::target::{NoTargets, Targets};
 use lx_c::MAX_DIRECT_STATES;
-use lx_cli::{ALONE, ITEMS, ListRequest, PrintWords, Refusal, Request, read_words};
+use lx_cli::{ALONE, ITEMS, ListRequest, PrintWords, Request, WordsFault, read_words};
 use lx_listing::LineWrites;
 use lx_piece::MAX_FILES;
 use lx_scan::ruling::items_are_by_rules;
@@ -83,21 +84,24 @@ pub fn run<R: Threads + Wait + Sync, S: Sources, O: Write, E: Write>(
     let mut list = Vec::new(alloc);
     let mut notes = Vec::new(alloc);
     let mut targets = NoTargets;
-    let ended = execute(
+    let session = Session {
         rt,
         alloc,
+        writes: LineWrites::EachLine,
+    };
+    let ended = execute(
+        &session,
         words,
         sources,
         &mut targets,
         &mut list,
         &mut notes,
-        LineWrites::EachLine,
         out,
     );
-    let ended = say(ended, out);
+    let ended = write_report_of(ended, out);
     let answer = out.flush();
-    let ended = after_flush(ended, answer);
-    tell(ended, &notes, sources, &targets, false, err)
+    let ended = result_after_flush(ended, answer);
+    report_end(ended, &notes, sources, &targets, false, err)
 }
 
 /// Does the same as `run`, with three differences. `targets` makes files. The lines of a listing are written in blocks. No line reports an output
@@ -130,26 +134,23 @@ pub fn run_with<R: Threads + Wait + Sync, S: Sources, T: Targets, O: Write + Out
 {
     let mut list = Vec::new(alloc);
     let mut notes = Vec::new(alloc);
-    let ended = execute(
+    let session = Session {
         rt,
         alloc,
-        words,
-        sources,
-        targets,
-        &mut list,
-        &mut notes,
-        LineWrites::Whole,
-        out,
+        writes: LineWrites::Whole,
+    };
+    let ended = execute(
+        &session, words, sources, targets, &mut list, &mut notes, out,
     );
-    let ended = say(ended, out);
+    let ended = write_report_of(ended, out);
     let answer = out.send();
-    let ended = after_flush(ended, answer);
-    tell(ended, &notes, sources, targets, out.is_closed(), err)
+    let ended = result_after_flush(ended, answer);
+    report_end(ended, &notes, sources, targets, out.is_closed(), err)
 }
 
 // Reports how the command ended, with the further lines. Returns the exit status.
-fn tell<S: Sources, T: Targets, E: Write>(
-    ended: Result<Vec<&str>, Failure<'_>>,
+fn report_end<S: Sources, T: Targets, E: Write>(
+    ended: Result<Vec<&str>, CommandFault<'_>>,
     notes: &[u8],
     sources: &S,
     targets: &T,
@@ -162,11 +163,11 @@ fn tell<S: Sources, T: Targets, E: Write>(
     match ended {
         Ok(cut) => {
             let _ = err.write_all(notes);
-            tell_cut(&cut, sources, err)
+            report_cut(&cut, sources, err)
         }
         Err(failure) => {
-            if !(is_closed && matches!(failure, Failure::Output)) {
-                tell_failure(&failure, sources, targets, err);
+            if !(is_closed && matches!(failure, CommandFault::Output)) {
+                report_failure(&failure, sources, targets, err);
             }
             if failure.status() <= WORDS_REFUSED {
                 let _ = err.write_all(notes);
@@ -177,27 +178,27 @@ fn tell<S: Sources, T: Targets, E: Write>(
 }
 
 // Reports why a command failed. Leaves a line out if an allocation fails.
-fn tell_failure<S: Sources, T: Targets, E: Write>(
-    failure: &Failure<'_>,
+fn report_failure<S: Sources, T: Targets, E: Write>(
+    failure: &CommandFault<'_>,
     sources: &S,
     targets: &T,
     err: &mut E,
 ) {
     let _ = match failure {
         // its text ends with a newline
-        Failure::Words(error) => write!(err, "{error}"),
+        CommandFault::Words(error) => write!(err, "{error}"),
         // the report is on the output
-        Failure::Unprintable(PrintFault::Reported(_)) => Ok(()),
+        CommandFault::Unprintable(PrintFault::Reported(_)) => Ok(()),
         _ => writeln!(err, "{failure}"),
     };
     match failure {
-        Failure::Automaton(fault) => tell_size(*fault, err),
-        Failure::Unprintable(PrintFault::TooManyForCode(states)) => tell_states(*states, err),
-        Failure::Refused(RequestFault::NoFormat(word)) => tell_formats(word, err),
-        Failure::Refused(RequestFault::NoWarning(word)) => tell_warnings(word, err),
-        Failure::NotRead(_) => tell_reason(sources.reason(), err),
-        Failure::Output => targets.tell_fault(err),
-        Failure::TooManyFiles => {
+        CommandFault::Automaton(fault) => tell_size(*fault, err),
+        CommandFault::Unprintable(PrintFault::TooManyForCode(states)) => tell_states(*states, err),
+        CommandFault::Refused(RequestFault::NoFormat(word)) => tell_formats(word, err),
+        CommandFault::Refused(RequestFault::NoWarning(word)) => tell_warnings(word, err),
+        CommandFault::NotRead(_) => tell_reason(sources.reason(), err),
+        CommandFault::Output => targets.print_fault(err),
+        CommandFault::TooManyFiles => {
             let _ = writeln!(
                 err,
                 "lx: at most {MAX_FILES} at once; the listing of more is that of parts of them, each with --first"
@@ -250,7 +251,7 @@ fn tell_cut_file<E: Write>(name: &str, reason: Option<io::Error>, err: &mut E) {
 }
 
 // Names the files that were cut short. Returns the exit status.
-fn tell_cut<S: Sources, E: Write>(cut: &[&str], sources: &S, err: &mut E) -> u8
+fn report_cut<S: Sources, E: Write>(cut: &[&str], sources: &S, err: &mut E) -> u8
     ensures { HasStatusOfCut result cut.now }
 {
     for i in 0..cut.len() {
@@ -262,16 +263,14 @@ fn tell_cut<S: Sources, E: Write>(cut: &[&str], sources: &S, err: &mut E) -> u8
 // Does what the arguments ask for. Keeps the text of a list of files in `list`, since names borrow from it. Writes further lines for stderr to
 // `notes`. Returns the names of the files that were cut short.
 fn execute<'a, R: Threads + Wait + Sync, S: Sources, T: Targets, O: Write>(
-    rt: &R,
-    alloc: Global,
+    session: &Session<'_, R>,
     words: &'a [String],
     sources: &mut S,
     targets: &mut T,
     list: &'a mut Vec<u8>,
     notes: &mut Vec<u8>,
-    writes: LineWrites,
     out: &mut O,
-) -> Result<Vec<&'a str>, Failure<'a>>
+) -> Result<Vec<&'a str>, CommandFault<'a>>
     ensures ok { IfOk result (λ cut.
         HasObeyed S.gives sources.old sources.new (O.contents out.old) (O.contents out.new)
         (texts_of cut.items) (asked_by (words_of words.now))) }
@@ -283,17 +282,20 @@ fn execute<'a, R: Threads + Wait + Sync, S: Sources, T: Targets, O: Write>(
     ensures err { IfErr result (HasFailed S.gives (asked_by (words_of words.now)) sources.old
         (O.contents out.old) (O.contents out.new)) }
 {
-    match read_words(alloc, words) {
-        Ok(order) => carry_out(rt, alloc, order, sources, targets, list, notes, writes, out),
-        Err(Refusal::Words(error)) => Err(Failure::Words(error)),
-        Err(Refusal::Memory) => Err(Failure::Memory),
+    match read_words(session.alloc, words) {
+        Ok(order) => carry_out(session, order, sources, targets, list, notes, out),
+        Err(WordsFault::Words(error)) => Err(CommandFault::Words(error)),
+        Err(WordsFault::Memory) => Err(CommandFault::Memory),
     }
 }
 
 // Writes the report that a failure carries.
-fn write_report<'a, O: Write>(failure: &Failure<'_>, out: &mut O) -> Result<(), Failure<'a>>
+fn write_report<'a, O: Write>(
+    failure: &CommandFault<'_>,
+    out: &mut O,
+) -> Result<(), CommandFault<'a>>
     ensures ok { OnOk result (WroteReport failure.now (O.contents out.old) (O.contents out.new)) }
-    ensures err { IfErr result (λ other. other ≡ Failure.Output) }
+    ensures err { IfErr result (λ other. other ≡ CommandFault.Output) }
 {
     match failure.report() {
         Some(report) => write_text(report, out),
@@ -302,10 +304,10 @@ fn write_report<'a, O: Write>(failure: &Failure<'_>, out: &mut O) -> Result<(), 
 }
 
 // Writes the report of a failure to the output, and returns the same result.
-fn say<'a, O: Write>(
-    ended: Result<Vec<&'a str>, Failure<'a>>,
+fn write_report_of<'a, O: Write>(
+    ended: Result<Vec<&'a str>, CommandFault<'a>>,
     out: &mut O,
-) -> Result<Vec<&'a str>, Failure<'a>>
+) -> Result<Vec<&'a str>, CommandFault<'a>>
     ensures ok { IfOk result
         (λ cut. (ended.entry ≡ Ok cut) × (O.contents out.new ≡ O.contents out.old)) }
     ensures err { IfErr result (λ failure.
@@ -322,20 +324,20 @@ fn say<'a, O: Write>(
 }
 
 // Returns the result of the command, or the failure of the output if the flush failed.
-fn after_flush<'a>(
-    ended: Result<Vec<&'a str>, Failure<'a>>,
+fn result_after_flush<'a>(
+    ended: Result<Vec<&'a str>, CommandFault<'a>>,
     answer: io::Result<()>,
-) -> Result<Vec<&'a str>, Failure<'a>>
+) -> Result<Vec<&'a str>, CommandFault<'a>>
     ensures ok { IfOk result (λ cut. (ended.entry ≡ Ok cut) × IsOk answer) }
     ensures err { IfErr result (λ failure. status_of failure < 4 → ended.entry ≡ Err failure) }
 {
     match ended {
         Ok(cut) => {
-            answer.map_err(|_| Failure::Output)?;
+            answer.map_err(|_| CommandFault::Output)?;
             Ok(cut)
         }
         Err(failure) if failure.report().is_some() => {
-            answer.map_err(|_| Failure::Output)?;
+            answer.map_err(|_| CommandFault::Output)?;
             Err(failure)
         }
         Err(failure) => Err(failure),
@@ -344,16 +346,14 @@ fn after_flush<'a>(
 
 // Does what a request asks for. Only a listing reports files that were cut short.
 fn carry_out<'a, R: Threads + Wait + Sync, S: Sources, T: Targets, O: Write>(
-    rt: &R,
-    alloc: Global,
+    session: &Session<'_, R>,
     order: Request<'a>,
     sources: &mut S,
     targets: &mut T,
     list: &'a mut Vec<u8>,
     notes: &mut Vec<u8>,
-    writes: LineWrites,
     out: &mut O,
-) -> Result<Vec<&'a str>, Failure<'a>>
+) -> Result<Vec<&'a str>, CommandFault<'a>>
     ensures ok { IfOk result (λ cut.
         HasObeyed S.gives sources.old sources.new (O.contents out.old) (O.contents out.new)
         (texts_of cut.items) (asked_as order.entry)) }
@@ -363,21 +363,18 @@ fn carry_out<'a, R: Threads + Wait + Sync, S: Sources, T: Targets, O: Write>(
     ensures err { IfErr result (HasFailed S.gives (asked_as order.entry) sources.old
         (O.contents out.old) (O.contents out.new)) }
 {
+    let alloc = session.alloc;
     match order {
         Request::Stored => {
-            list_stored(rt, alloc, writes, out)?;
+            list_stored(session, out)?;
             Ok(Vec::new(alloc))
         }
         Request::Told(text) => {
-            write!(out, "{text}").map_err(|_| Failure::Output)?;
+            write!(out, "{text}").map_err(|_| CommandFault::Output)?;
             Ok(Vec::new(alloc))
         }
-        Request::Run(order) => {
-            list_by_rules_of(rt, alloc, &order, sources, list, notes, writes, out)
-        }
-        Request::Scan(order) => {
-            list_by_tables_of(rt, alloc, &order, sources, list, notes, writes, out)
-        }
+        Request::Run(order) => { list_by_rules_of(session, &order, sources, list, notes, out) }
+        Request::Scan(order) => { list_by_tables_of(session, &order, sources, list, notes, out) }
         Request::Gen(words) => {
             generate_named(alloc, words, sources, targets, notes, out)?;
             Ok(Vec::new(alloc))
@@ -407,11 +404,9 @@ fn carry_out<'a, R: Threads + Wait + Sync, S: Sources, T: Targets, O: Write>(
 
 // Lists the stored run.
 fn list_stored<'a, R: Threads + Wait + Sync, O: Write>(
-    rt: &R,
-    alloc: Global,
-    writes: LineWrites,
+    session: &Session<'_, R>,
     out: &mut O,
-) -> Result<(), Failure<'a>>
+) -> Result<(), CommandFault<'a>>
     ensures ok { OnOk result (ListsByRules stored_specification (whole stored_text ∷ [])
         (O.contents out.old) (O.contents out.new)) }
     ensures err { IfErr result (λ failure.
@@ -419,16 +414,17 @@ fn list_stored<'a, R: Threads + Wait + Sync, O: Write>(
         × Keeps (O.contents out.old) (O.contents out.new)) }
 {
     listings_are_by_rules();
+    let alloc = session.alloc;
     let tables = tables_of_text(alloc, STORED_SPECIFICATION)?;
     let file = make_input(alloc, STORED_TEXT, false)?;
     list_files(
-        rt,
+        session.rt,
         alloc,
         tables,
         vec![in alloc; file]?,
         ITEMS,
         ALONE,
-        writes,
+        session.writes,
         out,
     )?;
     Ok(())
@@ -436,15 +432,13 @@ fn list_stored<'a, R: Threads + Wait + Sync, O: Write>(
 
 // Lists the request's files by its specification.
 fn list_by_rules_of<'a, R: Threads + Wait + Sync, S: Sources, O: Write>(
-    rt: &R,
-    alloc: Global,
+    session: &Session<'_, R>,
     order: &ListRequest<'a>,
     sources: &mut S,
     list: &'a mut Vec<u8>,
     notes: &mut Vec<u8>,
-    writes: LineWrites,
     out: &mut O,
-) -> Result<Vec<&'a str>, Failure<'a>>
+) -> Result<Vec<&'a str>, CommandFault<'a>>
     ensures ok { IfOk result (λ cut.
         HasDone S.gives sources.old sources.new (O.contents out.old) (O.contents out.new)
         (texts_of cut.items) (run-asked (plain_order order.now))) }
@@ -453,22 +447,20 @@ fn list_by_rules_of<'a, R: Threads + Wait + Sync, S: Sources, O: Write>(
 {
     items_are_by_rules();
     judge_words(order)?;
-    let text = read_whole(alloc, sources, order.rules)?;
-    let tables = tables_named(alloc, order.rules, &text, notes)?;
-    list_asked(rt, alloc, tables, order, sources, list, notes, writes, out)
+    let text = read_whole(session.alloc, sources, order.rules)?;
+    let tables = tables_named(session.alloc, order.rules, &text, notes)?;
+    list_asked(session, tables, order, sources, list, notes, out)
 }
 
 // Lists the request's files by its tables.
 fn list_by_tables_of<'a, R: Threads + Wait + Sync, S: Sources, O: Write>(
-    rt: &R,
-    alloc: Global,
+    session: &Session<'_, R>,
     order: &ListRequest<'a>,
     sources: &mut S,
     list: &'a mut Vec<u8>,
     notes: &mut Vec<u8>,
-    writes: LineWrites,
     out: &mut O,
-) -> Result<Vec<&'a str>, Failure<'a>>
+) -> Result<Vec<&'a str>, CommandFault<'a>>
     ensures ok { IfOk result (λ cut.
         HasDone S.gives sources.old sources.new (O.contents out.old) (O.contents out.new)
         (texts_of cut.items) (scan-asked (plain_order order.now))) }
@@ -476,9 +468,9 @@ fn list_by_tables_of<'a, R: Threads + Wait + Sync, S: Sources, O: Write>(
         sources.old (O.contents out.old) (O.contents out.new)) }
 {
     judge_words(order)?;
-    let text = read_whole(alloc, sources, order.rules)?;
-    let tables = read_tables_named(alloc, &text, notes)?;
-    list_asked(rt, alloc, tables, order, sources, list, notes, writes, out)
+    let text = read_whole(session.alloc, sources, order.rules)?;
+    let tables = read_tables_named(session.alloc, &text, notes)?;
+    list_asked(session, tables, order, sources, list, notes, out)
 }
 
 // Prints what the arguments ask for of the specification, or writes it to a file.
@@ -489,7 +481,7 @@ fn generate_named<'a, S: Sources, T: Targets, O: Write>(
     targets: &mut T,
     notes: &mut Vec<u8>,
     out: &mut O,
-) -> Result<(), Failure<'a>>
+) -> Result<(), CommandFault<'a>>
     ensures ok { OnOk result (HasDone S.gives sources.old sources.new (O.contents out.old)
         (O.contents out.new) [] (gen-asked (plain_print words.entry))) }
     ensures placed { OnOk result (HasPlaced S.gives T.places T.same sources.old targets.old
@@ -514,7 +506,7 @@ fn upgrade_named<'a, S: Sources, T: Targets, O: Write>(
     targets: &mut T,
     notes: &mut Vec<u8>,
     out: &mut O,
-) -> Result<(), Failure<'a>>
+) -> Result<(), CommandFault<'a>>
     ensures ok { OnOk result (HasDone S.gives sources.old sources.new (O.contents out.old)
         (O.contents out.new) [] (up-asked (plain_print words.entry))) }
     ensures placed { OnOk result (HasPlaced S.gives T.places T.same sources.old targets.old

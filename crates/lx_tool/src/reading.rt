@@ -19,7 +19,7 @@ const MOST_READS: u64 = 4_294_967_296;
 
 /// The result of a read.
 #[derive(Clone, Copy, Debug, PartialEq, Eq)]
-enum Turn {
+enum ReadTurn {
     /// The read gave bytes, or was interrupted: another one may give more.
     More,
     /// The reader is at its end.
@@ -33,23 +33,23 @@ fn read_on<R: Read>(
     reader: &mut R,
     chunk: &mut [u8],
     bytes: &mut Vec<u8>,
-) -> Result<Turn, SourceFault>
+) -> Result<ReadTurn, SourceFault>
     requires { 0 < length chunk.old }
     ensures bytes { OnOk result (ReadsOn (R.remaining reader.old) (R.remaining reader.new)
         bytes.old.items bytes.new.items) }
-    ensures end { IfOk result (λ turn. turn ≡ Turn.End → IsAtEnd (R.remaining reader.new)) }
+    ensures end { IfOk result (λ turn. turn ≡ ReadTurn.End → IsAtEnd (R.remaining reader.new)) }
     ensures memory { IfErr result (λ fault. fault ≡ SourceFault.Memory) }
 {
     match reader.read(chunk) {
-        Ok(0) => Ok(Turn::End),
+        Ok(0) => Ok(ReadTurn::End),
         Ok(count) => {
             bytes.extend_from_slice(&chunk[..count])?;
-            Ok(Turn::More)
+            Ok(ReadTurn::More)
         }
         Err(error) => match error.kind() {
-            ErrorKind::Interrupted => Ok(Turn::More),
+            ErrorKind::Interrupted => Ok(ReadTurn::More),
             ErrorKind::OutOfMemory => Err(SourceFault::Memory),
-            _ => Ok(Turn::Failed),
+            _ => Ok(ReadTurn::Failed),
         },
     }
 }
@@ -66,9 +66,9 @@ pub fn read_to_end<R: Read>(alloc: Global, reader: &mut R) -> Result<Input, Sour
     let mut chunk = vec![in alloc; 0u8; CHUNK]?;
     for _ in 0..MOST_READS {
         match read_on(reader, &mut chunk, &mut bytes)? {
-            Turn::More => {}
-            Turn::End => return Ok(Input { bytes, cut: false }),
-            Turn::Failed => break,
+            ReadTurn::More => {}
+            ReadTurn::End => return Ok(Input { bytes, cut: false }),
+            ReadTurn::Failed => break,
         }
     }
     Ok(Input { bytes, cut: true })
@@ -88,7 +88,7 @@ fn separators_in(bytes: &[u8], separator: u8) -> usize
 }
 
 // Adds the separators after the first `first` bytes to a count for these. The result is at most the number of separators among all bytes.
-fn counted(bytes: &[u8], first: usize, separator: u8, count: usize) -> usize
+fn count_separators(bytes: &[u8], first: usize, separator: u8, count: usize) -> usize
     requires first { first ≤ length bytes.now }
     requires count { count ≤ separators separator (take first bytes.now) }
     ensures { result ≤ separators separator bytes.now }
@@ -116,11 +116,11 @@ pub fn read_names<R: Read>(
     for _ in 0..MOST_READS {
         let first = bytes.len();
         match read_on(reader, &mut chunk, &mut bytes)? {
-            Turn::More => {}
-            Turn::End => return Ok(Input { bytes, cut: false }),
-            Turn::Failed => break,
+            ReadTurn::More => {}
+            ReadTurn::End => return Ok(Input { bytes, cut: false }),
+            ReadTurn::Failed => break,
         }
-        count = counted(&bytes, first, separator, count);
+        count = count_separators(&bytes, first, separator, count);
         if count > most {
             return Ok(Input { bytes, cut: false });
         }

@@ -7,10 +7,10 @@ ghost use Rattle.lx_tables.specs.Model.{IsTable};
 ghost use Rattle.lx_tool.specs.Given.{IsNoTable};
 ghost use Rattle.lx_tool.specs.Tabling.{AreTablesIn, AreTablesOfText, HasNoTables};
 
-use crate::failure::Failure;
+use crate::failure::CommandFault;
 use crate::tabling::{read_tables, specification_of, tables_of_text};
 use lx_auto::BuildFault;
-use lx_diagnose::{Place, diagnose, sentence, table_cause, table_sentence, words_of};
+use lx_diagnose::{TextPlace, diagnose, sentence, table_cause, table_sentence, words_of};
 use lx_rules::Spec;
 use lx_spec::SpecFault;
 use lx_tables::Tables;
@@ -18,7 +18,7 @@ use std::alloc::{AllocError, Global};
 use std::io::{self, Write};
 
 // Writes a file's name, with the line and the column if they are known.
-fn write_place(notes: &mut Vec<u8>, name: &str, place: Place) -> Result<(), io::Error> {
+fn write_place(notes: &mut Vec<u8>, name: &str, place: TextPlace) -> Result<(), io::Error> {
     if place.line == 0 {
         return write!(notes, "lx: {name}: ");
     }
@@ -53,8 +53,14 @@ fn push_table_cause(alloc: Global, text: &[u8], notes: &mut Vec<u8>) -> Result<(
 }
 
 // Adds the cause of a specification's fault. Leaves it out if an allocation fails.
-fn note_cause(alloc: Global, name: &str, text: &[u8], failure: &Failure<'_>, notes: &mut Vec<u8>) {
-    if let Failure::Specification(fault) = failure {
+fn note_cause(
+    alloc: Global,
+    name: &str,
+    text: &[u8],
+    failure: &CommandFault<'_>,
+    notes: &mut Vec<u8>,
+) {
+    if let CommandFault::Specification(fault) = failure {
         if push_cause(alloc, name, text, *fault, notes).is_err() {
             notes.clear();
         }
@@ -67,7 +73,7 @@ pub(crate) fn specification_named<'a>(
     name: &str,
     text: &[u8],
     notes: &mut Vec<u8>,
-) -> Result<Spec, Failure<'a>>
+) -> Result<Spec, CommandFault<'a>>
     ensures ok { IfOk result (λ spec. IsRead text.now (spec_view spec)) }
     ensures err { IfErr result (λ failure. HasNoTables text.now failure) }
 {
@@ -84,7 +90,7 @@ pub(crate) fn tables_named<'a>(
     name: &str,
     text: &[u8],
     notes: &mut Vec<u8>,
-) -> Result<Tables, Failure<'a>>
+) -> Result<Tables, CommandFault<'a>>
     ensures ok { IfOk result (λ tables. AreTablesOfText text.now tables) }
     ensures table { IfOk result (λ tables. IsTable tables) }
     ensures err { IfErr result (λ failure. HasNoTables text.now failure) }
@@ -101,12 +107,12 @@ pub(crate) fn read_tables_named<'a>(
     alloc: Global,
     text: &[u8],
     notes: &mut Vec<u8>,
-) -> Result<Tables, Failure<'a>>
+) -> Result<Tables, CommandFault<'a>>
     ensures ok { IfOk result (λ tables. AreTablesIn text.now tables) }
     ensures err { IfErr result (λ failure. IsNoTable text.now failure) }
 {
     let ended = read_tables(alloc, text);
-    if let Err(Failure::Tables(_)) = &ended {
+    if let Err(CommandFault::Tables(_)) = &ended {
         if push_table_cause(alloc, text, notes).is_err() {
             notes.clear();
         }

@@ -8,7 +8,7 @@ ghost use Rattle.lx_cli.specs.CommandLine.{plain_show, show as show-asked};
 ghost use Rattle.lx_tool.specs.Commands.{HasDone, HasFailed};
 ghost use Rattle.lx_tool.specs.Showing.{AreShown, HasManyStates, HasNoneShown, begins_as_tables, max_shown};
 
-use crate::failure::{Failure, PrintFault};
+use crate::failure::{CommandFault, PrintFault};
 use crate::given::read_whole;
 use crate::output::write_text;
 use crate::printing::names_of;
@@ -26,7 +26,7 @@ const MAX_SHOWN: u32 = 200;
 
 // The parts of a text that are shown.
 #[derive(Drop)]
-struct Shown {
+struct ShownParts {
     tables: Tables,
     // Names of the conditions, if they are known.
     names: Vec<Vec<u8>>,
@@ -44,7 +44,7 @@ fn shown_of_specification<'a>(
     name: &str,
     text: &[u8],
     notes: &mut Vec<u8>,
-) -> Result<Shown, Failure<'a>>
+) -> Result<ShownParts, CommandFault<'a>>
     requires { begins_as_tables text.now ≡ false }
     ensures ok { IfOk result
         (λ shown. AreShown text.now shown.tables (names_view shown.names.items)) }
@@ -53,7 +53,7 @@ fn shown_of_specification<'a>(
     let spec = specification_named(alloc, name, text, notes)?;
     let tables = unjoined_tables_of(alloc, &spec)?;
     let names = names_of(alloc, &spec.conditions)?;
-    Ok(Shown { tables, names })
+    Ok(ShownParts { tables, names })
 }
 
 fn shown_of<'a>(
@@ -61,7 +61,7 @@ fn shown_of<'a>(
     name: &str,
     text: &[u8],
     notes: &mut Vec<u8>,
-) -> Result<Shown, Failure<'a>>
+) -> Result<ShownParts, CommandFault<'a>>
     ensures ok { IfOk result
         (λ shown. AreShown text.now shown.tables (names_view shown.names.items)) }
     ensures err { IfErr result (λ failure. HasNoneShown text.now failure) }
@@ -71,18 +71,18 @@ fn shown_of<'a>(
     }
     let tables = read_tables_named(alloc, text, notes)?;
     let names = Vec::new(alloc);
-    Ok(Shown { tables, names })
+    Ok(ShownParts { tables, names })
 }
 
 // Rejects more states than are shown.
-fn judge_size<'a>(words: &ShowWords<'_>, tables: &Tables) -> Result<(), Failure<'a>>
+fn judge_size<'a>(words: &ShowWords<'_>, tables: &Tables) -> Result<(), CommandFault<'a>>
     ensures ok { OnOk result (words.now.all ≡ false → state_count tables.now.machine ≤ max_shown) }
     ensures err { IfErr result (HasManyStates words.now.all tables.now) }
 {
     if words.all || tables.states() <= MAX_SHOWN {
         return Ok(());
     }
-    Err(Failure::Unprintable(PrintFault::TooManyStates(tables.states())))
+    Err(CommandFault::Unprintable(PrintFault::TooManyStates(tables.states())))
 }
 
 /// Prints the automaton of a specification, or of tables, as a graph.
@@ -92,7 +92,7 @@ pub(crate) fn show_named<'a, S: Sources, O: Write>(
     sources: &mut S,
     notes: &mut Vec<u8>,
     out: &mut O,
-) -> Result<(), Failure<'a>>
+) -> Result<(), CommandFault<'a>>
     ensures ok { OnOk result (HasDone S.gives sources.old sources.new (O.contents out.old)
         (O.contents out.new) [] (show-asked (plain_show words.entry))) }
     ensures err { IfErr result (HasFailed S.gives (Some (show-asked (plain_show words.entry)))

@@ -7,15 +7,15 @@ ghost use Rattle.lx_tables.specs.Model.{AreTablesOf, IsTable};
 ghost use Rattle.lx_tool.specs.Given.{IsNoTable};
 ghost use Rattle.lx_tool.specs.Tabling.{AreTablesIn, AreTablesOfText, HasNoTables};
 
-use crate::failure::Failure;
-use crate::merged::merged_automaton;
+use crate::failure::CommandFault;
+use lx_auto::build_merged;
 use lx_spec::{Spec, read_spec};
 use lx_tables::Tables;
 use std::alloc::Global;
 
 /// Makes the tables of the specification in a text: reads, builds, merges and orders it. Err: E01 to E21 if the text is rejected, E30 and E31 if it
 /// is too large.
-pub fn tables_of_text<'a>(alloc: Global, text: &[u8]) -> Result<Tables, Failure<'a>>
+pub fn tables_of_text<'a>(alloc: Global, text: &[u8]) -> Result<Tables, CommandFault<'a>>
     ensures ok { IfOk result (λ tables. AreTablesOfText text.now tables) }
     ensures table { IfOk result (λ tables. IsTable tables) }
     ensures err { IfErr result (λ failure. HasNoTables text.now failure) }
@@ -25,7 +25,7 @@ pub fn tables_of_text<'a>(alloc: Global, text: &[u8]) -> Result<Tables, Failure<
 }
 
 /// Reads the specification in a text. Err: E01 to E21 if the text is rejected.
-pub(crate) fn specification_of<'a>(alloc: Global, text: &[u8]) -> Result<Spec, Failure<'a>>
+pub(crate) fn specification_of<'a>(alloc: Global, text: &[u8]) -> Result<Spec, CommandFault<'a>>
     ensures ok { IfOk result (λ spec. IsRead text.now (spec_view spec)) }
     ensures err { IfErr result (λ failure. HasNoTables text.now failure) }
 {
@@ -33,28 +33,28 @@ pub(crate) fn specification_of<'a>(alloc: Global, text: &[u8]) -> Result<Spec, F
 }
 
 /// Makes the tables of a specification. Err: E30 and E31 if it is too large.
-pub(crate) fn tables_of<'a>(alloc: Global, spec: &Spec) -> Result<Tables, Failure<'a>>
+pub(crate) fn tables_of<'a>(alloc: Global, spec: &Spec) -> Result<Tables, CommandFault<'a>>
     ensures ok { IfOk result (λ tables. AreTablesOf (spec_view spec.now) tables) }
     ensures table { IfOk result (λ tables. IsTable tables) }
     ensures err { IfErr result
         (λ failure. (text : List ℕ) → IsRead text (spec_view spec.now) → HasNoTables text failure) }
 {
-    let automaton = merged_automaton(alloc, spec)?;
+    let automaton = build_merged(alloc, spec)?;
     Ok(Tables::of(alloc, spec, &automaton)?)
 }
 
 /// Makes the same tables as `tables_of`, for printing only: no text is scanned by them.
-pub(crate) fn unjoined_tables_of<'a>(alloc: Global, spec: &Spec) -> Result<Tables, Failure<'a>>
+pub(crate) fn unjoined_tables_of<'a>(alloc: Global, spec: &Spec) -> Result<Tables, CommandFault<'a>>
     ensures ok { IfOk result (λ tables. AreTablesOf (spec_view spec.now) tables) }
     ensures err { IfErr result
         (λ failure. (text : List ℕ) → IsRead text (spec_view spec.now) → HasNoTables text failure) }
 {
-    let automaton = merged_automaton(alloc, spec)?;
+    let automaton = build_merged(alloc, spec)?;
     Ok(Tables::unjoined_of(alloc, spec, &automaton)?)
 }
 
 /// Reads tables from either version of their text. Err: B01 if the text isn't that of tables.
-pub(crate) fn read_tables<'a>(alloc: Global, text: &[u8]) -> Result<Tables, Failure<'a>>
+pub(crate) fn read_tables<'a>(alloc: Global, text: &[u8]) -> Result<Tables, CommandFault<'a>>
     ensures ok { IfOk result (λ tables. AreTablesIn text.now tables) }
     ensures err { IfErr result (λ failure. IsNoTable text.now failure) }
 {

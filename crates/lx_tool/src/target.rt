@@ -37,7 +37,7 @@ pub trait Targets {
         ensures { IfOk result (same self.now name.now other.now) };
 
     /// Prints why the last failing file wasn't made, as a line that names it. By default prints nothing.
-    fn tell_fault<E: Write>(&self, _err: &mut E) {}
+    fn print_fault<E: Write>(&self, _err: &mut E) {}
 }
 
 /// Targets that make no files.

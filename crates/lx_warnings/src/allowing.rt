@@ -3,12 +3,12 @@
 use crate::kinds::{KindSet, kind_named};
 use lx_diagnose::Span;
 use lx_diagnose::places::between;
-use lx_diagnose::scan::{begins_at, behind_blanks, find, next_blank, part};
+use lx_diagnose::scan::{begins_at, find, next_blank, part, skip_blanks};
 
 // Skips a word and the blanks after it. Returns `None` if the word isn't there.
-fn behind(text: &[u8], at: usize, end: usize, word: &[u8]) -> Option<usize> {
+fn skip_word(text: &[u8], at: usize, end: usize, word: &[u8]) -> Option<usize> {
     if begins_at(text, at, word) {
-        Some(behind_blanks(text, at.saturating_add(word.len()), end))
+        Some(skip_blanks(text, at.saturating_add(word.len()), end))
     } else {
         None
     }
@@ -17,9 +17,9 @@ fn behind(text: &[u8], at: usize, end: usize, word: &[u8]) -> Option<usize> {
 // Returns the start of the names in a comment that allows warnings.
 fn names_start(text: &[u8], line: Span) -> Option<usize> {
     let end = line.end();
-    let opened = behind(text, behind_blanks(text, line.start, end), end, b"/*")?;
-    let marked = behind(text, opened, end, b"lx:")?;
-    behind(text, marked, end, b"allow")
+    let opened = skip_word(text, skip_blanks(text, line.start, end), end, b"/*")?;
+    let marked = skip_word(text, opened, end, b"lx:")?;
+    skip_word(text, marked, end, b"allow")
 }
 
 // Adds the kind with this name to the set, if there is one.
@@ -41,7 +41,7 @@ pub(crate) fn allowed_by(text: &[u8], line: Span) -> KindSet {
     };
     let mut next = start;
     for at in start..end {
-        let first = behind_blanks(text, at, end);
+        let first = skip_blanks(text, at, end);
         if at == next && first < end {
             let behind_name = next_blank(text, first, end);
             allowed = with_named(allowed, part(text, between(first, behind_name)));

@@ -4,7 +4,7 @@ use crate::kinds::{KindSet, WarningKind};
 use crate::suspects::{Suspect, push_part};
 use lx_diagnose::Span;
 use lx_diagnose::places::between;
-use lx_diagnose::scan::{begins_at, behind_word, find, is_at, part};
+use lx_diagnose::scan::{begins_at, find, is_at, part, skip_name};
 use lx_ere::escape::escape_at;
 use std::alloc::AllocError;
 
@@ -70,7 +70,7 @@ fn look_at_class(
 ) -> Result<(), AllocError> {
     let phrase = "`@` takes one of its bytes; for the class write [@]";
     let name = brackets.start.saturating_add(2);
-    let behind = behind_word(text, name, brackets.end());
+    let behind = skip_name(text, name, brackets.end());
     if begins_at(text, brackets.start, b"[:")
         && name < behind
         && begins_at(text, behind, b":]")
@@ -99,7 +99,7 @@ fn point_at(text: &[u8], at: usize, end: usize) -> (u8, usize) {
 }
 
 // Returns the position after the class or equivalence class at this position.
-fn behind_class(text: &[u8], at: usize, end: usize) -> Option<usize> {
+fn skip_class(text: &[u8], at: usize, end: usize) -> Option<usize> {
     let behind = at.saturating_add(2);
     if begins_at(text, at, b"[:") {
         match find(text, behind, end, b":]") {
@@ -132,7 +132,7 @@ fn look_at_member(
     at: usize,
     end: usize,
 ) -> Result<usize, AllocError> {
-    if let Some(behind) = behind_class(text, at, end) {
+    if let Some(behind) = skip_class(text, at, end) {
         return Ok(behind);
     }
     let (low, behind) = point_at(text, at, end);

@@ -15,7 +15,7 @@ fn is_hexadecimal_at(text: &[u8], at: usize) -> bool {
 }
 
 // Returns the first position from `from` up to `end` without a hexadecimal digit.
-fn behind_hexadecimal(text: &[u8], from: usize, end: usize) -> usize {
+fn skip_hexadecimal(text: &[u8], from: usize, end: usize) -> usize {
     for at in from..end {
         if !is_hexadecimal_at(text, at) {
             return at;
@@ -79,7 +79,7 @@ fn look_at_escape(
         return Ok(());
     }
     if text[first] == b'x' {
-        let last = behind_hexadecimal(text, behind, end);
+        let last = skip_hexadecimal(text, behind, end);
         let digits = last.saturating_sub(behind);
         return look_at_hexadecimal(found, allowed, between(start, last), digits);
     }

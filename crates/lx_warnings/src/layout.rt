@@ -10,7 +10,7 @@ use std::alloc::{AllocError, Global};
 
 /// A part of the text, with the kinds that the line before it allows.
 #[derive(Clone, Copy)]
-pub(crate) struct Part {
+pub(crate) struct TextPart {
     pub at: Span,
     pub allowed: KindSet,
 }
@@ -25,7 +25,7 @@ pub(crate) struct DefinitionPart {
 
 /// A rule: its start, its pattern after the list of conditions, and its action up to the end of its last line.
 #[derive(Clone, Copy)]
-pub(crate) struct RulePart {
+pub(crate) struct RuleText {
     pub start: usize,
     pub pattern: Span,
     pub action: Span,
@@ -36,20 +36,20 @@ pub(crate) struct RulePart {
 #[derive(Drop)]
 pub(crate) struct Layout {
     /// Lines that declare conditions.
-    pub declarations: Vec<Part>,
+    pub declarations: Vec<TextPart>,
     /// Names of conditions, without INITIAL.
-    pub conditions: Vec<Part>,
+    pub conditions: Vec<TextPart>,
     pub definitions: Vec<DefinitionPart>,
     /// The line that begins the rules section.
-    pub rules_begin: Option<Part>,
-    pub rules: Vec<RulePart>,
+    pub rules_begin: Option<TextPart>,
+    pub rules: Vec<RuleText>,
     /// Skipped lines of the rules section, except those of groups and actions.
-    pub skipped: Vec<Part>,
+    pub skipped: Vec<TextPart>,
     /// Lines after the rules section.
-    pub behind: Vec<Part>,
+    pub behind: Vec<TextPart>,
 }
 
-fn take_conditions(layout: &mut Layout, text: &[u8], line: Part) -> Result<(), AllocError> {
+fn take_conditions(layout: &mut Layout, text: &[u8], line: TextPart) -> Result<(), AllocError> {
     layout.declarations.push(line)?;
     let end = line.at.end();
     let mut next = next_blank(text, line.at.start, end);
@@ -58,7 +58,7 @@ fn take_conditions(layout: &mut Layout, text: &[u8], line: Part) -> Result<(), A
             continue;
         }
         next = next_blank(text, at, end);
-        layout.conditions.push(Part {
+        layout.conditions.push(TextPart {
             at: between(at, next),
             allowed: line.allowed,
         })?;
@@ -76,7 +76,7 @@ fn lengthen_rule(layout: &mut Layout, line: Span) {
 fn take_line(
     layout: &mut Layout,
     text: &[u8],
-    line: Part,
+    line: TextPart,
     kind: LineKind,
 ) -> Result<(), AllocError> {
     let allowed = line.allowed;
@@ -90,7 +90,7 @@ fn take_line(
         })?,
         LineKind::RulesBegin => layout.rules_begin = Some(line),
         LineKind::Skipped => layout.skipped.push(line)?,
-        LineKind::Rule(rule) => layout.rules.push(RulePart {
+        LineKind::Rule(rule) => layout.rules.push(RuleText {
             start: rule.line.start,
             pattern: rule.pattern,
             action: rule.action,
@@ -103,7 +103,7 @@ fn take_line(
 }
 
 // Returns the kinds that a line allows on the next one, if the line isn't part of another construct.
-fn allowed_behind(text: &[u8], line: Span, section: Section) -> KindSet {
+fn allowed_on_next(text: &[u8], line: Span, section: Section) -> KindSet {
     match section {
         Section::Definitions | Section::Rules => allowed_by(text, line),
         _ => KindSet::none(),
@@ -137,8 +137,8 @@ pub(crate) fn layout_of(alloc: Global, text: &[u8]) -> Result<Layout, AllocError
         if ends {
             let at = line_between(text, start, end);
             let (kind, next) = kind_of_line(text, at, section);
-            take_line(&mut layout, text, Part { at, allowed }, kind)?;
-            allowed = allowed_behind(text, at, section);
+            take_line(&mut layout, text, TextPart { at, allowed }, kind)?;
+            allowed = allowed_on_next(text, at, section);
             section = next;
             start = end + 1;
         }

@@ -19,4 +19,4 @@ pub mod warnings;
 
 pub use crate::kinds::{ALL, KindSet, WarningKind, kind_named, name_of};
 pub use crate::untaken::untaken_bytes;
-pub use crate::warnings::{Known, Warning, Warnings, warnings_beside, warnings_of};
+pub use crate::warnings::{Known, Warning, Warnings, warnings_of, warnings_of_rejected};

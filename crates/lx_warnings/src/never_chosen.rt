@@ -1,7 +1,7 @@
 //! The warning on a rule that is never chosen.
 
 use crate::warnings::Known;
-use lx_diagnose::wording::{Fillings, filled};
+use lx_diagnose::wording::{Fillings, fill};
 use lx_reach::Takers;
 use lx_spec::Spec;
 use std::alloc::{AllocError, Global};
@@ -38,7 +38,7 @@ fn push_number(
         other: b"",
         line: number,
     };
-    phrase.extend_from_slice(&filled(alloc, words, &fillings)?)
+    phrase.extend_from_slice(&fill(alloc, words, &fillings)?)
 }
 
 fn line_of(spec: &Spec, rule: u16) -> u32 {

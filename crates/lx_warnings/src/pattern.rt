@@ -11,7 +11,7 @@ use lx_ere::lexeme::lexeme_at;
 use std::alloc::{AllocError, Global};
 
 // Returns the position after the `^` of a pattern, if it has one.
-fn behind_caret(text: &[u8], pattern: Span) -> usize {
+fn skip_caret(text: &[u8], pattern: Span) -> usize {
     if is_at(text, pattern.start, b'^') {
         pattern.start.saturating_add(1)
     } else {
@@ -27,7 +27,7 @@ fn look_at_lexemes(
     allowed: &KindSet,
     pattern: Span,
 ) -> Result<(), AllocError> {
-    let start = behind_caret(text, pattern);
+    let start = skip_caret(text, pattern);
     let end = pattern.end();
     let mut branches = branches_at(alloc, start);
     let mut rest = part(text, between(start, end));

@@ -1,13 +1,13 @@
 //! Skipped lines that look like rules.
 
 use crate::kinds::{KindSet, WarningKind};
-use crate::layout::{Layout, Part};
+use crate::layout::{Layout, TextPart};
 use crate::suspects::{Suspect, push_part, push_suspect, suspect_at};
 use lx_diagnose::places::between;
-use lx_diagnose::scan::{behind_blanks, part};
+use lx_diagnose::scan::{part, skip_blanks};
 use lx_ere::{EreFault, read_pattern};
 use lx_spec::action::{Action, Statement, read_action};
-use lx_spec::rule_line::{Prefix, RuleLine, rule_line_of};
+use lx_spec::rule_line::{RuleLine, RulePrefix, rule_line_of};
 use std::alloc::{AllocError, Global};
 
 // Warning on a line that begins with a blank, if the blank may belong to the pattern.
@@ -66,7 +66,7 @@ fn is_rule(alloc: Global, text: &[u8]) -> Result<bool, AllocError> {
             pattern,
             action,
         } => {
-            if matches!(prefix, Prefix::Unclosed)
+            if matches!(prefix, RulePrefix::Unclosed)
                 || !is_action(alloc, action, is_no_statement(text))?
             {
                 return Ok(false);
@@ -95,10 +95,10 @@ fn look_at_indented(
     alloc: Global,
     text: &[u8],
     found: &mut Vec<Suspect>,
-    line: &Part,
+    line: &TextPart,
 ) -> Result<(), AllocError> {
     let end = line.at.end();
-    let at = between(behind_blanks(text, line.at.start, end), end);
+    let at = between(skip_blanks(text, line.at.start, end), end);
     if is_action_behind_blank(alloc, part(text, at))? {
         let kind = WarningKind::SkippedRule;
         return push_part(found, &line.allowed, kind, at, BLANK_PHRASE);

@@ -4,7 +4,7 @@ ghost use Rattle.std.specs.Prelude.{◌<◌, length};
 
 use crate::action::look_at_action;
 use crate::kinds::{KindSet, WarningKind};
-use crate::layout::{DefinitionPart, Layout, Part};
+use crate::layout::{DefinitionPart, Layout, TextPart};
 use crate::pattern::look_at_pattern;
 use crate::skipped::look_at_skipped;
 use crate::suspects::{Subject, Suspect, push_part, push_suspect};
@@ -12,7 +12,7 @@ use crate::untaken::untaken_bytes;
 use crate::warnings::Known;
 use lx_diagnose::Span;
 use lx_diagnose::places::between;
-use lx_diagnose::scan::{behind_word, is_listed, part};
+use lx_diagnose::scan::{is_listed, part, skip_name};
 use lx_ere::{EreFault, read_substitute};
 use lx_reach::far_ahead;
 use lx_spec::Spec;
@@ -26,10 +26,10 @@ const CONDITION_WORDS: &[u8] = b" s S x X start ";
 fn look_at_declaration(
     text: &[u8],
     found: &mut Vec<Suspect>,
-    line: &Part,
+    line: &TextPart,
 ) -> Result<(), AllocError> {
     let start = line.at.start.saturating_add(1);
-    let word = between(start, behind_word(text, start, line.at.end()));
+    let word = between(start, skip_name(text, start, line.at.end()));
     if is_listed(CONDITION_WORDS, part(text, word)) {
         return Ok(());
     }
@@ -164,7 +164,7 @@ fn look_at_rules(
 }
 
 // Returns the name of a condition, or for INITIAL the line that begins the rules section.
-fn condition_part(layout: &Layout, condition: u16) -> Option<&Part> {
+fn condition_part(layout: &Layout, condition: u16) -> Option<&TextPart> {
     if condition == 0 {
         return layout.rules_begin.as_ref();
     }

@@ -11,10 +11,10 @@ use crate::never_chosen::phrase_and_example;
 use crate::suspects::{Subject, Suspect};
 use crate::suspicion::{look_at_lines, look_at_text};
 use crate::untaken::untaken_bytes;
-use lx_diagnose::Place;
+use lx_diagnose::TextPlace;
 use lx_diagnose::lines::place_of;
 use lx_diagnose::scan::part;
-use lx_diagnose::wording::{Fillings, filled, printed, told};
+use lx_diagnose::wording::{Fillings, fill, or_question_mark, shown_bytes};
 use lx_reach::Takers;
 use lx_spec::Spec;
 use lx_tables::Tables;
@@ -38,7 +38,7 @@ pub struct Known<'k> {
 #[derive(Drop)]
 pub struct Warning {
     pub kind: WarningKind,
-    pub place: Place,
+    pub place: TextPlace,
     pub words: Vec<u8>,
 }
 
@@ -75,7 +75,7 @@ fn untaken_words(alloc: Global, known: &Known<'_>, condition: u16) -> Result<Vec
     words.extend_from_slice(b" no rule takes [")?;
     words.extend_from_slice(&untaken_in(alloc, known.tables, condition)?)?;
     words.extend_from_slice(b"]: such bytes are echoed")?;
-    printed(alloc, &words)
+    shown_bytes(alloc, &words)
 }
 
 // Fills `@` and `~` of a phrase.
@@ -92,11 +92,11 @@ fn filled_with(
         other,
         line: 0,
     };
-    filled(alloc, phrase, &fillings)
+    fill(alloc, phrase, &fillings)
 }
 
 // Makes the text of a finding. Without known facts, for a rejected text, no phrase needs them.
-fn phrased(
+fn text_of_finding(
     alloc: Global,
     text: &[u8],
     known: Option<&Known<'_>>,
@@ -128,7 +128,7 @@ fn warning_of(
     ensures told { IfOk result (IsTold text.now) }
     ensures kind { IfOk result (λ warning. warning.kind ≡ suspect.now.kind) }
 {
-    let words = told(phrased(alloc, text, known, suspect)?)?;
+    let words = or_question_mark(text_of_finding(alloc, text, known, suspect)?)?;
     Ok(Warning {
         kind: suspect.kind,
         place: place_of(text, suspect.at),
@@ -137,7 +137,7 @@ fn warning_of(
 }
 
 // Selects the findings of the requested kinds. Returns the first ones with their text, and the number of all of them.
-fn told_of(
+fn first_findings(
     alloc: Global,
     text: &[u8],
     known: Option<&Known<'_>>,
@@ -184,11 +184,11 @@ pub fn warnings_of(
     let mut suspects = Vec::new(alloc);
     look_at_text(alloc, text, &mut suspects, asked, &layout, known)?;
     suspects.sort_by_key(|suspect| suspect.at.start)?;
-    told_of(alloc, text, Some(known), &suspects, asked, most)
+    first_findings(alloc, text, Some(known), &suspects, asked, most)
 }
 
 // Returns the findings that are on none of these lines.
-fn beside(
+fn off_lines(
     alloc: Global,
     text: &[u8],
     suspects: &[Suspect],
@@ -206,7 +206,7 @@ fn beside(
 /// Returns the warnings of a rejected text whose sections are well-formed. They need no more than the lines of the text. They are of the requested
 /// kinds, ordered by their places, without those on the given lines, which have errors. Returns the first `most`, and the number of all of them. Err:
 /// an allocation failed.
-pub fn warnings_beside(
+pub fn warnings_of_rejected(
     alloc: Global,
     text: &[u8],
     lines: &[u32],
@@ -221,7 +221,7 @@ pub fn warnings_beside(
     let layout = layout_of(alloc, text)?;
     let mut suspects = Vec::new(alloc);
     look_at_lines(alloc, text, &mut suspects, &layout, None)?;
-    let mut kept = beside(alloc, text, &suspects, lines)?;
+    let mut kept = off_lines(alloc, text, &suspects, lines)?;
     kept.sort_by_key(|suspect| suspect.at.start)?;
-    told_of(alloc, text, None, &kept, asked, most)
+    first_findings(alloc, text, None, &kept, asked, most)
 }

@@ -2,17 +2,17 @@
 use Rattle.std.specs.Prelude.{ℕ, ◌<◌, length}
 use Rattle.lx_spec.specs.ActionWords as words
 use Rattle.lx_spec.specs.views.Words.{word_view}
-use Rattle.lx_spec.specs.declared.word.Piece.{Piece}
-use Rattle.lx_spec.specs.declared.word.Piece.TheVariants.{Ended, Passed, Found, NoWord}
+use Rattle.lx_spec.specs.declared.word.WordConstruct.{WordConstruct}
+use Rattle.lx_spec.specs.declared.word.WordConstruct.TheVariants.{Ended, Passed, Found, NoWord}
 
-abbrev pub piece_view : Piece → words.Piece
+abbrev pub piece_view : WordConstruct → words.WordConstruct
 piece_view Ended = words.ended
 piece_view (Passed rest) = words.passed rest.now
 piece_view (Found w rest) = words.word (word_view w) rest.now
 piece_view NoWord = words.no_word
 
 -- the text after the piece is shorter
-abbrev pub LeavesLess : Piece → ℕ → Type 0
+abbrev pub LeavesLess : WordConstruct → ℕ → Type 0
 LeavesLess Ended n = Unit {0}
 LeavesLess (Passed rest) n = length rest.now < n
 LeavesLess (Found w rest) n = length rest.now < n

@@ -4,10 +4,10 @@ use Rattle.std.specs.Option.{option_map}
 use Rattle.lx_spec.specs.Sections as plain
 use Rattle.lx_spec.specs.views.Sections.{raw_rule_view, sections_view}
 use Rattle.lx_spec.specs.declared.parsed_sections.ParsedSections.{ParsedSections}
-use Rattle.lx_spec.specs.declared.section.Place.{Place}
-use Rattle.lx_spec.specs.declared.section.Place.TheVariants.{Definitions, Comment, Group, Rules, RulesGroup, Action}
+use Rattle.lx_spec.specs.declared.section.LineContext.{LineContext}
+use Rattle.lx_spec.specs.declared.section.LineContext.TheVariants.{Definitions, Comment, Group, Rules, RulesGroup, Action}
 
-abbrev pub place_view : Place → plain.Place
+abbrev pub place_view : LineContext → plain.LineContext
 place_view Definitions = plain.definitions
 place_view (Comment since) = plain.comment since
 place_view (Group since) = plain.group since
@@ -16,5 +16,5 @@ place_view (RulesGroup since) = plain.rules_group since
 place_view (Action begun) = plain.action (raw_rule_view begun.rule) begun.count
 
 -- the contents once a line was taken, and the place of the next line
-abbrev pub taken_view : ParsedSections × Option Place → plain.ParsedSections × Option plain.Place
+abbrev pub taken_view : ParsedSections × Option LineContext → plain.ParsedSections × Option plain.LineContext
 taken_view taken = (sections_view taken.0, option_map place_view taken.1)

@@ -1,11 +1,11 @@
 -- The lines of rules of the code, without their places in memory.
 use Rattle.lx_spec.specs.RuleLines as line
-use Rattle.lx_spec.specs.declared.rule_line.Prefix.{Prefix}
-use Rattle.lx_spec.specs.declared.rule_line.Prefix.TheVariants.{Absent, Unclosed, Listed}
+use Rattle.lx_spec.specs.declared.rule_line.RulePrefix.{RulePrefix}
+use Rattle.lx_spec.specs.declared.rule_line.RulePrefix.TheVariants.{Absent, Unclosed, Listed}
 use Rattle.lx_spec.specs.declared.rule_line.RuleLine.{RuleLine}
 use Rattle.lx_spec.specs.declared.rule_line.RuleLine.TheVariants.{Skipped, OpensGroup, RulesEnd, BeginsRule}
 
-abbrev pub prefix_view : Prefix → line.Prefix
+abbrev pub prefix_view : RulePrefix → line.RulePrefix
 prefix_view Absent = line.absent
 prefix_view Unclosed = line.unclosed
 prefix_view (Listed text) = line.listed text.now

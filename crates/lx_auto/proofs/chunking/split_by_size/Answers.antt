@@ -12,7 +12,7 @@ returns-in-Some c = λ e n t.
     let rest = reverse c.pop_chunk.new.chunks.items in
     let popped = subst (λ p. IsPopped (trees_from nodes []) rest p) c.in-Some.is (c.pop_chunk.ensures (trees_from nodes []) c.in_ok-chunks.ensures) in
     let chunk = popped_chunk e nodes rest c.in-Some.chunk n t popped in
-    IfOk-weaker c.outlined.result (λ o. IsOutlinedOf o e) (λ o. IsSplitOf o e) (λ o h. inr (chunk.0, h)) (c.outlined.ensures e chunk.1)
+    IfOk-weaker c.outline.result (λ o. IsOutlinedOf o e) (λ o. IsSplitOf o e) (λ o h. inr (chunk.0, h)) (c.outline.ensures e chunk.1)
 
 pub returns : goal.returns
 returns c = λ e n t.

@@ -12,5 +12,5 @@ returns c =
     let same : length (nodes_view c.push.new.self.items) ≡ length c.push.new.self.items = length-map c.push.new.self.items node_view in
     let ok = c.push.new.self.ok in
     let small = c.push.new.self.small in
-    join-both (nodes_view c.args.nodes.now.items) (nodes_view c.push.new.self.items) c.args.left c.args.right c.above_both.result (λ z. let n = c.if-left-eq0.false in omega arith) (λ z. let n = c.if-right-eq0.false in omega arith) pushed (omega arith)
-    (c.above_both.ensures ∙ ap (λ (b : Bool). record { size = min 18446744073709551615 (c.args.left.size + c.args.right.size + 1); nullable = b; repeated = false }) c.both.ensures)
+    join-both (nodes_view c.args.nodes.now.items) (nodes_view c.push.new.self.items) c.args.left c.args.right c.node_of_two.result (λ z. let n = c.if-left-eq0.false in omega arith) (λ z. let n = c.if-right-eq0.false in omega arith) pushed (omega arith)
+    (c.node_of_two.ensures ∙ ap (λ (b : Bool). record { size = min 18446744073709551615 (c.args.left.size + c.args.right.size + 1); nullable = b; repeated = false }) c.both.ensures)

@@ -1,6 +1,6 @@
 use Rattle.std.proofs.Common.{◌≡◌, ◌∙◌, ◌++◌, ◌∷◌, [], ap}
 use Rattle.std.proofs.lemmas.Result.{IfOk-weaker}
-use Rattle.lx_check.specs.declared.finding.Finding.TheVariants.{Specification}
+use Rattle.lx_check.specs.declared.text_fault.TextFault.TheVariants.{Specification}
 use Rattle.lx_check.proofs.Furthering.{one_fault, some_faults}
 use Rattle.lx_check.proofs.further.findings_from.Goals as goal
 

@@ -9,5 +9,5 @@ returns-in_default c = members_at_none (position_of c.args.position) c.args.text
 
 pub returns : goal.returns
 returns c =
-    c.members_behind.ensures (λ b. in_ranges (ranges_of c.in-Some.first) b || false) (c.insert_member.ensures (λ _. false) c.empty-set.ensures)
+    c.read_members.ensures (λ b. in_ranges (ranges_of c.in-Some.first) b || false) (c.insert_member.ensures (λ _. false) c.empty-set.ensures)
     ∙ members_at_is (position_of c.args.position) c.args.text.now (ranges_of c.in-Some.first) c.in-Some.rest.now (sym c.in-Some.ensures)

@@ -18,7 +18,7 @@ returns-in_err-expr-clause-refused c =
     let is : ◌≡◌ {A = Result Pattern EreFault} (Err (p.0)) (Err NoReading) = sym p.1 ∙ refused in
     let same : p.0 ≡ NoReading = cc in
     let parts = parts_of c.args.text.now r pattern in
-    c.in_err-expr.ensures.refused (ap Err (sym p.2 ∙ same)) (r.tree) (parts.ending) (subst (λ t. Reads t (r.tree) (parts.ending)) (sym c.behind_caret.ensures) parts.reads)
+    c.in_err-expr.ensures.refused (ap Err (sym p.2 ∙ same)) (r.tree) (parts.ending) (subst (λ t. Reads t (r.tree) (parts.ending)) (sym c.strip_caret.ensures) parts.reads)
 
 pub returns-in-Some-clause-reading : goal.returns-in-Some-clause-reading
 returns-in-Some-clause-reading c =
@@ -26,13 +26,13 @@ returns-in-Some-clause-reading c =
     of_parts c.args.text.now _ short (record {
       caret = c.begins_with-line_begin.ensures;
       ending = c.in_ok-expr.ending.now;
-      reads = subst (λ t. Reads t (regex_of c.in_ok-expr.expr) c.in_ok-expr.ending.now) c.behind_caret.ensures c.in_ok-expr.ensures.reading;
+      reads = subst (λ t. Reads t (regex_of c.in_ok-expr.expr) c.in_ok-expr.ending.now) c.strip_caret.ensures c.in_ok-expr.ensures.reading;
       ends = ending_sound c.in_ok-expr.ending.now c.in-Some.line_end (sym c.in-Some.ensures);
     })
 
 pub returns-in-None-clause-refused : goal.returns-in-None-clause-refused
 returns-in-None-clause-refused c = λ _ r pattern.
     let parts = parts_of c.args.text.now r pattern in
-    let reads : Reads (body_of c.args.text.now) (regex_of c.in_ok-expr.expr) c.in_ok-expr.ending.now = subst (λ t. Reads t (regex_of c.in_ok-expr.expr) c.in_ok-expr.ending.now) c.behind_caret.ensures c.in_ok-expr.ensures.reading in
+    let reads : Reads (body_of c.args.text.now) (regex_of c.in_ok-expr.expr) c.in_ok-expr.ending.now = subst (λ t. Reads t (regex_of c.in_ok-expr.expr) c.in_ok-expr.ending.now) c.strip_caret.ensures c.in_ok-expr.ensures.reading in
     let same = one_alternation (body_of c.args.text.now) (r.tree) (regex_of c.in_ok-expr.expr) (parts.ending) c.in_ok-expr.ending.now parts.reads reads in
     no_none (r.line_end) (c.in-None.ensures ∙ (ap ending_at (sym same.1) ∙ ending_complete (parts.ending) (r.line_end) parts.ends))

@@ -14,16 +14,16 @@ use Rattle.lx_piece.proofs.relaying.relay_of.Goals as goal
 pub returns-in_err-collector-clause-err : goal.returns-in_err-collector-clause-err
 returns-in_err-collector-clause-err g c =
     let p = err_from_is_err_and c.from_residual.result c.from_residual.ensures.1 in
-    rw p.1 (part_at_start g.M.Maker.made c.args.plan.now _ _ c.files.ensures.plan.some_items (g.met.A.ArrivalsOf.stays _) c.requires.nothing_taken)
+    rw p.1 (part_at_start g.M.Maker.made c.args.plan.now _ _ c.files.ensures.plan.some_items (g.met.A.ArrivalsOf.stays _) c.requires.reader.nothing)
 
 pub loop-piece-init : goal.loop-piece-init
 loop-piece-init g c =
     let k = c.in_ok-collector.ensures in
     record {
       arrivals_plan = c.requires.arrivals_plan;
-      reader_plan = c.requires.reader_plan;
+      reader_plan = c.requires.reader.same;
       follows = g.met.R.ReaderOf.follows_itself _;
-      counts = c.requires.nothing_taken ∙ fresh_delivered c.args.plan.now _ _ _ k.kept c.files.ensures.count;
+      counts = c.requires.reader.nothing ∙ fresh_delivered c.args.plan.now _ _ _ k.kept c.files.ensures.count;
       faults = refl;
       shape = fresh_shape c.args.plan.now _ _ _ k.kept c.run.ensures c.files.ensures.count;
       ready = λ file. ap (λ kept. is_ready_at (slice_get kept.buffers file)) k.kept ∙ fresh_ready _ c.files.result file;

@@ -18,7 +18,7 @@ use Rattle.lx_plain.proofs.NameLemmas.{DefinedBelow, below_other, below_still, b
 use Rattle.lx_plain.proofs.Viewed.{viewed_at}
 use Rattle.lx_plain.proofs.Weights.{count_of, count_all, count_le, name_falls}
 use Rattle.lx_plain.proofs.matcher.+matcher.Goals as goal
-use Rattle.lx_plain.proofs.matcher.+matcher.Goals.{named-then-eq+in_ok-further+in_ok-add_new, named-else-eq}
+use Rattle.lx_plain.proofs.matcher.+matcher.Goals.{reach_of_name-then-eq+in_ok-further+in_ok-add_new, reach_of_name-else-eq}
 
 pub any_number-ends-requires : goal.any_number-ends-requires
 any_number-ends-requires t c = (search rules, λ j h. c.closing.invariant.within j (c.closing.invariant.closing.inside j h))
@@ -46,8 +46,8 @@ any_number-returns t c =
     let L : List ℕ → Type 0 = Matches (NameMatches (map definition_view c.args.definitions.now) c.args.depth) (regex_of c.args.body.now) in
     closing_ends L c.args.text.now c.args.starts.now c.closing.reached c.closing.fresh c.closing.invariant.closing (λ j. nothing_in c.closing.fresh j (eq-eqb (btree_set_len c.closing.fresh) 0 (c.is_empty.ensures.0 c.closing-test.false)))
 
-pub at_most-loop-round-preserved : goal.at_most-loop-round-preserved
-at_most-loop-round-preserved t c =
+pub reach_of_words-loop-round-preserved : goal.reach_of_words-loop-round-preserved
+reach_of_words-loop-round-preserved t c =
     let L : List ℕ → Type 0 = Matches (NameMatches (map definition_view c.args.definitions.now) c.args.depth) (regex_of c.args.body.now) in
     let k : ℕ = c.loop-round._round in
     let further : AreEnds (Repeats L (k + 1)) c.args.text.now c.args.starts.now c.in_ok-places-2.places
@@ -63,7 +63,7 @@ at_most-loop-round-preserved t c =
 pub ends-returns-in-Set : goal.ends-returns-in-Set
 ends-returns-in-Set t c =
     let names : List ℕ → List ℕ → Type 0 = NameMatches (map definition_view c.args.definitions.now) c.args.depth in
-    rw c.in-Set.is (IfOk-weaker c.behind_byte.result _ (AreEnds (Matches names (one_of c.in-Set.set)) c.args.text.now c.args.starts.now) (λ ends. ends_byte names c.in-Set.set c.args.text.now c.args.starts.now ends) c.behind_byte.ensures)
+    rw c.in-Set.is (IfOk-weaker c.positions_after_byte.result _ (AreEnds (Matches names (one_of c.in-Set.set)) c.args.text.now c.args.starts.now) (λ ends. ends_byte names c.in-Set.set c.args.text.now c.args.starts.now ends) c.positions_after_byte.ensures)
 
 pub ends-ends-requires-in-Then : goal.ends-ends-requires-in-Then
 ends-ends-requires-in-Then t c = (search rules, ends_within _ c.args.text.now c.args.starts.now c.in_ok-middles-in-Then.middles c.requires c.in_ok-middles-in-Then.ensures)
@@ -101,10 +101,10 @@ ends-returns-in-Times t c =
     let high : ℕ = c.in-Some-2.high in
     let same : c.in-Some.high ≡ high = (let e : Some c.in-Some.high ≡ Some high = sym c.in-Some.is ∙ c.in-Some-2.is in cc) in
     let le : low ≤ high = (let h : low ≤ c.in-Some.high = c.if-high-low.false in omega arith) in
-    rw (c.in-Times.is, c.in-Some-2.is) (IfOk-weaker c.at_most.result (AreEnds (AtMost L (high - low)) c.args.text.now c.in_ok-owed-in-Times.owed) (AreEnds (RepeatsBetween L low (Some high)) c.args.text.now c.args.starts.now)
+    rw (c.in-Times.is, c.in-Some-2.is) (IfOk-weaker c.reach_of_words.result (AreEnds (AtMost L (high - low)) c.args.text.now c.in_ok-owed-in-Times.owed) (AreEnds (RepeatsBetween L low (Some high)) c.args.text.now c.args.starts.now)
     (λ ends few. ends_map (Splits (Repeats L low) (AtMost L (high - low))) (RepeatsBetween L low (Some high)) c.args.text.now c.args.starts.now ends (λ w. between_at_most L low high w le) (at_most_between L low high)
     (ends_then (Repeats L low) (AtMost L (high - low)) c.args.text.now c.args.starts.now c.in_ok-owed-in-Times.owed ends (rw c.deref-in-Times.ensures at c.in_ok-owed-in-Times.ensures) few))
-    (rw c.deref-in-Some-2.ensures at c.at_most.ensures))
+    (rw c.deref-in-Some-2.ensures at c.reach_of_words.ensures))
 
 pub exactly-loop-round-preserved : goal.exactly-loop-round-preserved
 exactly-loop-round-preserved t c =
@@ -116,16 +116,16 @@ exactly-loop-round-preserved t c =
           (ends_then (Repeats L k) L c.args.text.now c.args.starts.now c.loop-round.places c.in_ok-places-2.places c.loop-round.invariant.ends c.in_ok-places-2.ensures);
     }
 
-pub named-ends-requires : goal.named-ends-requires
-named-ends-requires t c =
+pub reach_of_name-ends-requires : goal.reach_of_name-ends-requires
+reach_of_name-ends-requires t c =
     let at : slice_get c.args.definitions.now c.loop-definition.definition-index ≡ Some c.definition-item.result = slice_get_read c.args.definitions.now (length c.args.definitions.now) c.loop-definition.definition-index c.definition-item.result refl c.loop-definition-test.true c.definition-item.is in
     let le : count_of c.definition-item.result.expr ≤ count_all c.args.definitions.now = count_le c.args.definitions.now c.loop-definition.definition-index c.definition-item.result at in
     let deep : 0 < c.args.depth = omega arith in
     let less = name_falls c.args.definitions.now (count_of c.definition-item.result.expr) c.args.depth deep le in
     (search (rules, less), c.requires)
 
-pub named-loop-definition-preserved : goal.named-loop-definition-preserved
-named-loop-definition-preserved t c =
+pub reach_of_name-loop-definition-preserved : goal.reach_of_name-loop-definition-preserved
+reach_of_name-loop-definition-preserved t c =
     let read : slice_get c.args.definitions.now c.loop-definition.definition-index ≡ Some c.definition-item.result = slice_get_read c.args.definitions.now (length c.args.definitions.now) c.loop-definition.definition-index c.definition-item.result refl c.loop-definition-test.true c.definition-item.is in
     let inner : List ℕ → List ℕ → Type 0 = NameMatches (map definition_view c.args.definitions.now) (c.args.depth - 1) in
     let k : ℕ = c.loop-definition.definition-index in
@@ -134,20 +134,20 @@ named-loop-definition-preserved t c =
     let at : slice_get definitions k ≡ Some here = viewed_at definition_view c.args.definitions.now k c.definition-item.result read in
     let name : List ℕ = c.args.name.now in
     elim c.if-eq.branch [
-      | named-then-eq+in_ok-further+in_ok-add_new w ↦
+      | reach_of_name-then-eq+in_ok-further+in_ok-add_new w ↦
           let is : here.name ≡ name = sym c.as_slice.ensures.value ∙ same_text c.as_slice.result.now name (sym (sym c.eq.ensures ∙ w.if-eq.true)) in
           let L : List ℕ → Type 0 = Matches inner here.tree in
           rw w.found-is (ends_map (λ v. DefinedBelow inner definitions name k v ⊎ L v) (DefinedBelow inner definitions name (k + 1)) c.args.text.now c.args.starts.now w.add_new.new.places
           (λ v. below_more inner definitions name v k here at is) (λ v. below_fewer inner definitions name v k here at)
           (ends_or (DefinedBelow inner definitions name k) L c.args.text.now c.args.starts.now c.loop-definition.found w.in_ok-further.further w.add_new.new.places c.loop-definition.invariant w.in_ok-further.ensures w.in_ok-add_new.ensures.all))
-      | named-else-eq w ↦
+      | reach_of_name-else-eq w ↦
           let other : here.name ≡ name → ⊥ = λ is. other_text c.as_slice.result.now name (sym (sym c.eq.ensures ∙ w.if-eq.false)) (c.as_slice.ensures.value ∙ is) in
           rw w.found-is (ends_map (DefinedBelow inner definitions name k) (DefinedBelow inner definitions name (k + 1)) c.args.text.now c.args.starts.now c.loop-definition.found
           (λ v. below_still inner definitions name v k) (λ v. below_other inner definitions name v k here at other) c.loop-definition.invariant)
     ]
 
-pub named-returns : goal.named-returns
-named-returns t c =
+pub reach_of_name-returns : goal.reach_of_name-returns
+reach_of_name-returns t c =
     let inner : List ℕ → List ℕ → Type 0 = NameMatches (map definition_view c.args.definitions.now) (c.args.depth - 1) in
     let deep : 0 < c.args.depth = omega arith in
     let definitions : List PlainDefinition = map definition_view c.args.definitions.now in

@@ -18,14 +18,14 @@ decreases-ends l = weight l.definitions.now l.depth (count_of l.expr.now)
 abbrev pub decreases-exactly : goal.decreases-exactly
 decreases-exactly l = weight l.definitions.now l.depth (count_of l.body.now) + 1
 
-abbrev pub decreases-at_most : goal.decreases-at_most
-decreases-at_most l = weight l.definitions.now l.depth (count_of l.body.now) + 1
+abbrev pub decreases-reach_of_words : goal.decreases-reach_of_words
+decreases-reach_of_words l = weight l.definitions.now l.depth (count_of l.body.now) + 1
 
 abbrev pub decreases-any_number : goal.decreases-any_number
 decreases-any_number l = weight l.definitions.now l.depth (count_of l.body.now) + 1
 
-abbrev pub decreases-named : goal.decreases-named
-decreases-named l = weight l.definitions.now l.depth 0 + 1
+abbrev pub decreases-reach_of_name : goal.decreases-reach_of_name
+decreases-reach_of_name l = weight l.definitions.now l.depth 0 + 1
 
 abbrev pub invariant-exactly-loop-round : goal.invariant-exactly-loop-round
 invariant-exactly-loop-round l = record {
@@ -50,5 +50,5 @@ invariant-any_number-closing l = record {
 abbrev pub decreases-any_number-closing : goal.decreases-any_number-closing
 decreases-any_number-closing l = 2 * (length l.text + 1 - btree_set_len l.reached) + (if is_empty l.fresh then 0 else 1)
 
-abbrev pub invariant-named-loop-definition : goal.invariant-named-loop-definition
-invariant-named-loop-definition l = AreEnds (DefinedBelow (NameMatches (map definition_view l.definitions) (l.depth - 1)) (map definition_view l.definitions) l.name l.definition-index) l.text l.starts l.found
+abbrev pub invariant-reach_of_name-loop-definition : goal.invariant-reach_of_name-loop-definition
+invariant-reach_of_name-loop-definition l = AreEnds (DefinedBelow (NameMatches (map definition_view l.definitions) (l.depth - 1)) (map definition_view l.definitions) l.name l.definition-index) l.text l.starts l.found

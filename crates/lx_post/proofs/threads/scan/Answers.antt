@@ -5,7 +5,7 @@ use Rattle.lx_post.proofs.Received.{none_taken, all_whole}
 use Rattle.lx_post.proofs.threads.scan.Goals as goal
 
 pub returns-in_default-clause-taken : goal.returns-in_default-clause-taken
-returns-in_default-clause-taken g c = none_taken c.args.plan.now _ c.requires.nothing_taken
+returns-in_default-clause-taken g c = none_taken c.args.plan.now _ c.requires.reader.nothing
 
 pub returns-in-Received-clause-ok : goal.returns-in-Received-clause-ok
 returns-in-Received-clause-ok g c =

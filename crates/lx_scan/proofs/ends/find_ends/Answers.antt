@@ -14,8 +14,8 @@ bytes-init c =
     let text = c.args.text.now in
     let place = c.args.place in
     let byte = slice_index text place.offset in
-    let is_begun : c.begun-begun.result ≡ begun table place.condition place.at_line_begin (slice_index table.machine.classes byte) (nat_eq byte 10)
-    = c.begun-begun.ensures.state ∙ ap (λ (n : ℕ). begun table place.condition place.at_line_begin n (nat_eq byte 10)) c.class-class.ensures.class in
+    let is_begun : c.first_state-begun.result ≡ begun table place.condition place.at_line_begin (slice_index table.machine.classes byte) (nat_eq byte 10)
+    = c.first_state-begun.ensures.state ∙ ap (λ (n : ℕ). begun table place.condition place.at_line_begin n (nat_eq byte 10)) c.class-class.ensures.class in
     let within = c.row-row.ensures.within in
     let long = c.requires.joined.long in
     let entries = c.as_slice-entries.ensures.value in
@@ -28,7 +28,7 @@ bytes-init c =
     let line_few = c.requires.place.line_few in
     record {
       runs = runs_begun table text place byte (place.line + c.newline.result) c.row-row.result c.requires.place c.requires.more refl
-          (subst (λ (q : JoinedState). IsJoinedState table q) is_begun c.begun-begun.ensures.known)
+          (subst (λ (q : JoinedState). IsJoinedState table q) is_begun c.first_state-begun.ensures.known)
           (c.row-row.ensures.row ∙ ap (λ (q : JoinedState). joined_number table q * joined_width table) is_begun)
           (ap (λ n. place.line + n) newline_is);
       count = omega arith;

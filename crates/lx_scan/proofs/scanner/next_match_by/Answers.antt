@@ -8,7 +8,7 @@ pub returns-clause-found : goal.returns-clause-found
 returns-clause-found c =
     let place = c.args.place in
     let text = c.args.text.now in
-    let next = c.place_behind-next.ensures in
+    let next = c.place_after-next.ensures in
     let found = subst (λ (rest : List ℕ). IsFound c.args.tables.now rest place c.match_by-found.result) (sym (take_rest text place.offset)) c.match_by-found.ensures.found in
-    goes_on c.args.tables.now text (take (length text - place.offset) (drop place.offset text)) place c.match_by-found.result c.place_behind-next.result c.match_by-found.ensures.table refl
+    goes_on c.args.tables.now text (take (length text - place.offset) (drop place.offset text)) place c.match_by-found.result c.place_after-next.result c.match_by-found.ensures.table refl
     (omega arith) c.requires.known c.requires.line_few c.requires.line_some found next.few next.offset next.condition next.begin next.line

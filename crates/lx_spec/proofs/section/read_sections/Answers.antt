@@ -26,6 +26,6 @@ loop-line-preserved c = record {
 }
 
 pub returns : goal.returns
-returns c = subst (Gives sections_view c.at_end.result)
+returns c = subst (Gives sections_view c.finish_sections.result)
     (sym (sym c.loop-line.invariant.same ∙ ap (plain.sections_behind (sections_view c.loop-line.sections) (place_view c.loop-line.place) c.loop-line.number) c.in_default.ensures.steps.0))
-    (c.at_end.ensures c.loop-line.number)
+    (c.finish_sections.ensures c.loop-line.number)

@@ -9,6 +9,6 @@ returns-in-Some-clause-known c = record {
   state = λ s e. target_known c.args.tables.now c.requires.table c.args.q.state c.args.class s c.requires.known.state c.requires.class (sym c.in-Some.ensures ∙ e);
 }
 
-pub begun-requires-clause-condition : goal.begun-requires-clause-condition
-begun-requires-clause-condition c =
+pub first_state-requires-clause-condition : goal.first_state-requires-clause-condition
+first_state-requires-clause-condition c =
     rw c.requires.condition (condition_known c.args.tables.now c.requires.table (accepted_at c.args.tables.now.machine c.args.q.state) c.args.q.condition c.requires.known.condition)

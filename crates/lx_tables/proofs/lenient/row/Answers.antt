@@ -7,9 +7,9 @@ pub loop-left-preserved : goal.loop-left-preserved
 loop-left-preserved c = record {
   room = omega arith;
   same =
-      row_more c.args.version c.args.width c.loop-left.encoded_options.items c.loop-left.left (c.loop-left.left - 1) c.loop-left.from c.clamped-low.result c.clamped-end.result
+      row_more c.args.version c.args.width c.loop-left.encoded_options.items c.loop-left.left (c.loop-left.left - 1) c.loop-left.from c.clamp-low.result c.clamp-end.result
       c.run-first.result.0.0 c.run-first.result.0.1 c.run-first.result.0.2 c.encoded_value.result c.loop-left.rest.now c.run-first.result.1.now _ _
-      (omega arith) (omega arith) c.run-first.ensures c.clamped-low.ensures.value c.clamped-end.ensures.value c.encoded_value.ensures c.in_ok-push_many.ensures c.in_ok-push_many-2.ensures
+      (omega arith) (omega arith) c.run-first.ensures c.clamp-low.ensures.value c.clamp-end.ensures.value c.encoded_value.ensures c.in_ok-push_many.ensures c.in_ok-push_many-2.ensures
       ∙ c.loop-left.invariant.same;
 }
 

@@ -10,5 +10,5 @@ pub returns : goal.returns
 returns c =
     second_is c.args.text.now (front_view c.in_ok-front.front) c.count-width.result.0 c.in_ok-classes.classes.items (map decoded_option c.in_ok-accepted.accepted.items) (map decoded_option c.in_ok-accepted.targets.items)
     c.in_ok-front.rest.now c.count-width.result.1.now c.in_ok-classes.rest.now
-    (c.in_ok-front.ensures ∙ ap read_front c.behind.ensures) c.count-width.ensures.value (c.in_ok-classes.ensures ∙ ap read_classes c.behind-2.ensures)
-    (c.in_ok-accepted.ensures ∙ ap (read_states Second c.count-width.result.0) c.behind-3.ensures)
+    (c.in_ok-front.ensures ∙ ap read_front c.skip.ensures) c.count-width.ensures.value (c.in_ok-classes.ensures ∙ ap read_classes c.skip-2.ensures)
+    (c.in_ok-accepted.ensures ∙ ap (read_states Second c.count-width.result.0) c.skip-3.ensures)

@@ -30,7 +30,7 @@ loop-preserved g c =
     record {
       bytes = reads_on (left c.args.reader.now) (left c.loop.reader) (left c.read_on.new.reader) c.loop.bytes.items c.read_on.new.bytes.items c.loop.invariant.bytes c.in_ok-read_on.ensures.bytes;
       room = c.loop.invariant.room;
-      count = rw c.deref.ensures.value at c.counted-count.ensures;
+      count = rw c.deref.ensures.value at c.count_separators-count.ensures;
     }
 
 pub returns-clause-bytes : goal.returns-clause-bytes

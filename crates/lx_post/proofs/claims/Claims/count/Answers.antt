@@ -9,4 +9,4 @@ ends : (x files : ℕ) (one : List ℕ) (left all : List Drawn) → left ≡ [] 
 ends x files one left all none sum look = let empty : sum_by (λ (s : Drawn). times x s.drawn) left ≡ 0 = ap (sum_by (λ (s : Drawn). times x s.drawn)) none in omega arith
 
 pub returns : goal.returns
-returns c x = ends x c.args.self.now.files c.loop-other.one.me.0.drawn c.loop-other.seats.items c.args.seats.items (grind arith) (c.loop-other.invariant.sum x) (c.look.ensures x)
+returns c x = ends x c.args.self.now.files c.loop-other.one.me.0.drawn c.loop-other.seats.items c.args.seats.items (grind arith) (c.loop-other.invariant.sum x) (c.learn_drawn_once.ensures x)

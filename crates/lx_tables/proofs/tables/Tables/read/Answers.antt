@@ -17,8 +17,8 @@ returns-in_err-has_limits-clause-refused c = let p = err_from_is_err_and c.from_
 pub returns-then-not-branch-clause-refused : goal.returns-then-not-branch-clause-refused
 returns-then-not-branch-clause-refused c = λ e. refused_by_limits c.args.text.now (λ has. let yes = c.in_ok-has_limits.ensures.1 (subst HasLimits (sym c.in_ok-raw.ensures) has) in let no = sym c.if-not-branch.true ∙ yes in cc)
 
-pub classed-requires : goal.classed-requires
-classed-requires c = c.in_ok-has_limits.ensures.0 c.if-not-branch.false
+pub over_classes-requires : goal.over_classes-requires
+over_classes-requires c = c.in_ok-has_limits.ensures.0 c.if-not-branch.false
 
 pub returns-in_err-tables-clause-tables : goal.returns-in_err-tables-clause-tables
 returns-in_err-tables-clause-tables c = let p = err_from_is_err_and c.from_residual-in_err-tables.result c.from_residual-in_err-tables.ensures.1 in rw p.1 tt
