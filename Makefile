@@ -1,10 +1,10 @@
 # The index of what you can do here; `make help` prints it.
 #
-# `make install` copies the program, its manual page, the drivers, and the documents and examples in the folders that they have here:
+# `make install` copies the program, its manual page, completions, the drivers, and the documents and examples in the folders that they have here:
 #
 #     make install PREFIX=/usr/local DESTDIR=package
 #
-# It proves and builds the program first, or takes another one by PROGRAM=PATH.
+# The program is the one that ./lx starts, or another one by PROGRAM=PATH.
 
 PREFIX = /usr/local
 DESTDIR =
@@ -13,15 +13,20 @@ BIN = $(DESTDIR)$(PREFIX)/bin
 MAN = $(DESTDIR)$(PREFIX)/share/man/man1
 DATA = $(DESTDIR)$(PREFIX)/share/lx
 DOC = $(DESTDIR)$(PREFIX)/share/doc/lx
+# Where the shells look for completions.
+BASH = $(PREFIX)/share/bash-completion/completions
+ZSH = $(PREFIX)/share/zsh/site-functions
+FISH = $(PREFIX)/share/fish/vendor_completions.d
 
 .SUFFIXES:
-.PHONY: all help test bench fmt map package install uninstall
+.PHONY: all help test bench fmt map completions package release install uninstall clean-proofs
+.PHONY: bin/lx
 
-all: ## proves the program and builds it, if a source is newer than it
-	@./lx --version
+all: ## proves the program and builds it; what was proved is kept
+	@./lx --build
 
 help: ## prints this list
-	@sed -n 's/^\([a-z]*\):[^#]*## /\1: /p' Makefile
+	@sed -n 's/^\([a-z-]*\):[^#]*## /\1: /p' Makefile
 
 test: ## runs every proof and then every test
 	./test
@@ -37,18 +42,33 @@ fmt: ## lays out the sources of every crate
 map: ## writes the table of crates in docs/ARCHITECTURE.md anew
 	docs/map
 
-package: ## makes the archive of the program, drivers, documents and examples
-	./pack
+completions: $(PROGRAM) ## writes the completions for shells anew
+	completions/make --program "$(PROGRAM)"
 
-bin/lx: all
+package: $(PROGRAM) ## makes the archive of the program and what goes with it, and a package for Debian where dpkg-deb is there
+	./pack --program "$(PROGRAM)"
+	if command -v dpkg-deb >/dev/null; then ./pack --deb --program "$(PROGRAM)"; fi
+
+release: ## makes the archive of dist/ anew, with the program that was built here
+	dist/make
+
+# The program as ./lx finds it: built here, released, or built now.
+bin/lx:
+	@./lx --version >/dev/null
 
 install: $(PROGRAM) ## copies the program and what goes with it below PREFIX
-	mkdir -p "$(BIN)" "$(MAN)" "$(DATA)" "$(DOC)"
+	mkdir -p "$(BIN)" "$(MAN)" "$(DATA)" "$(DOC)" "$(DESTDIR)$(BASH)" "$(DESTDIR)$(ZSH)" "$(DESTDIR)$(FISH)"
 	install -m 755 "$(PROGRAM)" "$(BIN)/lx"
 	install -m 644 docs/lx.1 "$(MAN)/lx.1"
 	install -m 644 drivers/lx.h drivers/lx.py drivers/lx.rs drivers/lx_c.py "$(DATA)"
-	./pack --list | tar -c -f - --mode=u=rwX,go=rX -T - | tar -x -f - --no-same-owner -C "$(DOC)"
+	install -m 644 completions/lx.bash "$(DESTDIR)$(BASH)/lx"
+	install -m 644 completions/_lx "$(DESTDIR)$(ZSH)/_lx"
+	install -m 644 completions/lx.fish "$(DESTDIR)$(FISH)/lx.fish"
+	./pack --list | grep -v ^completions/ | tar -c -f - --mode=u=rwX,go=rX -T - | tar -x -f - --no-same-owner -C "$(DOC)"
 
 uninstall: ## removes what install copied
-	rm -f "$(BIN)/lx" "$(MAN)/lx.1"
+	rm -f "$(BIN)/lx" "$(MAN)/lx.1" "$(DESTDIR)$(BASH)/lx" "$(DESTDIR)$(ZSH)/_lx" "$(DESTDIR)$(FISH)/lx.fish"
 	rm -rf "$(DATA)" "$(DOC)"
+
+clean-proofs: ## removes the kept proofs of crates, which the next build makes anew; what is built stays in bin/
+	rm -rf crates/*/out

@@ -2,10 +2,10 @@
 
 ghost use Rattle.std.specs.Prelude.{◌<◌, length};
 
-use crate::rows::{tables_of, three_rules};
+use crate::rows::three_rules;
 use crate::stop::{Stop, end_of_print, say, say_fault, unless_refused};
 use lx_auto::{Automaton, BuildFault, build, merge};
-use lx_fixtures::{THREE_RULES, THREE_RULES_TEXTS, TWO_WORDS};
+use lx_fixtures::{THREE_RULES, THREE_RULES_TEXTS, TWO_WORDS, tables_of};
 use lx_scan::{Item, scan};
 use lx_spec::{Code, Rule, Spec, SpecFault, read_spec};
 use lx_tables::{TableFault, Tables};

@@ -4,9 +4,9 @@ ghost use Rattle.std.specs.Prelude.{◌≡◌, ◌<◌, ◌≤◌, IfOk, length}
 ghost use Rattle.lx_piece.specs.Cutting.{IsCutterOf};
 ghost use Rattle.lx_piece.specs.Plans.{IsPlan};
 
-use crate::rows::{FILE_OF_TWO_WORDS, plan_of};
+use crate::rows::FILE_OF_TWO_WORDS;
 use crate::stop::{Stop, end_of_print, refuse_from_here, say, say_fault, unless_refused};
-use lx_fixtures::{NO_RULES, THREE_RULES, piece};
+use lx_fixtures::{NO_RULES, THREE_RULES, piece, plan_of};
 use lx_piece::{Collector, Cutter, Mark, Piece, Plan, Refused, Why};
 use std::alloc::{AllocError, Global};
 
@@ -54,7 +54,7 @@ fn echo_plan(alloc: Global, len: usize) -> Result<Plan, Stop>
     ensures { IfOk result IsPlan }
 {
     let bytes = [b'x'; 512];
-    plan_of(alloc, NO_RULES, &[(&bytes[..len], false)], 256)
+    Ok(plan_of(alloc, NO_RULES, &[(&bytes[..len], false)], 256)?)
 }
 
 /// Prints the first pieces of two plans.

@@ -2,9 +2,9 @@
 
 ghost use Rattle.lx_piece.specs.Plans.{IsPlan};
 
-use crate::rows::{FILE_OF_TWO_WORDS, plan_of};
+use crate::rows::FILE_OF_TWO_WORDS;
 use crate::stop::{Stop, end_of_print, refuse_from_here, say_fault, unless_refused};
-use lx_fixtures::{THREE_RULES, take_first};
+use lx_fixtures::{THREE_RULES, plan_of, take_first};
 use lx_piece::{Plan, Reader, ReaderFault};
 use lx_post::RunFault;
 use lx_tool::{Listing, print_listing};

@@ -6,9 +6,9 @@ ghost use Rattle.lx_post.specs.Claimed.{IsSeatOf};
 ghost use Rattle.lx_post.specs.Posted.{IsSendPassOf, IsTakePassOf, fresh_send};
 
 use crate::collecting::print_piece;
-use crate::rows::{FILE_OF_TWO_WORDS, plan_of};
+use crate::rows::FILE_OF_TWO_WORDS;
 use crate::stop::{Stop, end_of_print, refuse_from_here, say, unless_refused};
-use lx_fixtures::{THREE_FILES, THREE_RULES, first_piece};
+use lx_fixtures::{THREE_FILES, THREE_RULES, first_piece, plan_of};
 use lx_piece::{Arrivals, Piece, Plan};
 use lx_post::{ClaimSeat, Claims, Note, Post, PostArrivals, SendPass, TakePass, finish};
 use std::alloc::{AllocError, Global};

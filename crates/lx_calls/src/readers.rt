@@ -5,9 +5,9 @@ ghost use Rattle.lx_piece.specs.Plans.{files_of, kinds_of};
 
 use crate::automata::{automaton_of, print_automaton, print_tables};
 use crate::collecting::print_piece;
-use crate::rows::{plan_of, tables_of, three_rules};
+use crate::rows::three_rules;
 use crate::stop::{Stop, end_of_print, refuse_from_here, say};
-use lx_fixtures::{NO_RULES, THREE_RULES, TWO_WORDS, among_strangers};
+use lx_fixtures::{NO_RULES, THREE_RULES, TWO_WORDS, among_strangers, plan_of, tables_of};
 use lx_piece::{Arrivals, Cutter, Input, ListArrivals, Plan};
 use lx_scan::{Item, Place, next_match};
 use lx_spec::{Kind, Step};

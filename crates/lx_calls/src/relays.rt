@@ -3,9 +3,8 @@
 ghost use Rattle.std.specs.Prelude.{◌≡◌, IfOk, length, replicate};
 ghost use Rattle.lx_piece.specs.Plans.{files_of};
 
-use crate::rows::plan_of;
 use crate::stop::{Stop, end_of_print, say_fault, unless_refused};
-use lx_fixtures::{NO_RULES, among_strangers};
+use lx_fixtures::{NO_RULES, among_strangers, plan_of};
 use lx_piece::{ListArrivals, Piece, Plan, Reader, ReaderFault, RelayFault, Reply, relay};
 use std::alloc::{AllocError, Global};
 

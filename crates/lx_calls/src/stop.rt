@@ -1,5 +1,6 @@
 //! Ends of a driver, and their output.
 
+use lx_fixtures::NoPlan;
 use std::alloc::{AllocError, Global};
 use std::fmt::Display;
 use std::io;
@@ -13,6 +14,13 @@ pub(crate) enum Stop {
     Refused,
     /// The output failed.
     Output,
+}
+
+// If tables or a plan can't be made, the call isn't begun.
+impl From<NoPlan> for Stop {
+    fn from(_fault: NoPlan) -> Stop {
+        Stop::NotBegun
+    }
 }
 
 /// Returns the end of a driver whose last act was to print.

@@ -3,9 +3,8 @@
 ghost use Rattle.std.specs.Prelude.{◌<◌, ◌≤◌};
 
 use crate::listings::{print_part, print_written, room_for_listing};
-use crate::rows::plan_of;
 use crate::stop::{Stop, end_of_print, refuse_from_here, say};
-use lx_fixtures::{THREE_FILES, THREE_RULES};
+use lx_fixtures::{THREE_FILES, THREE_RULES, plan_of};
 use lx_piece::Plan;
 use lx_post::{Gate, MeetingGate, OpenGate, RunFault, scan_all};
 use lx_tool::Listing;

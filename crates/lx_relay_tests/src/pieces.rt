@@ -5,8 +5,8 @@ ghost use Rattle.lx_piece.specs.Cutting.{IsCutterOf};
 ghost use Rattle.lx_piece.specs.Plans.{IsPlan, max_items};
 
 use crate::asserts::{holds, same};
-use crate::plans::{echoes, plan_of};
-use lx_fixtures::{MIXED_FILES, MIXED_RULES, THREE_RULES, TWO_WORDS, last_file_first};
+use crate::plans::echoes;
+use lx_fixtures::{MIXED_FILES, MIXED_RULES, THREE_RULES, TWO_WORDS, last_file_first, plan_of};
 use lx_piece::{Cutter, Mark, Piece, Plan};
 use lx_scan::Item;
 use lx_spec::Kind;

@@ -3,7 +3,7 @@
 ghost use Rattle.std.specs.Prelude.{◌≡◌, ◌<◌, ◌≤◌, IfOk, length, vec_len};
 ghost use Rattle.lx_piece.specs.Plans.{IsPlan, max_items};
 
-use lx_fixtures::{NO_RULES, inputs, tables_of};
+use lx_fixtures::{NO_RULES, tables_of};
 use lx_piece::{Input, Plan};
 use std::alloc::{AllocError, Global};
 use std::process::Abort;
@@ -51,24 +51,6 @@ pub(crate) fn echo_plan(alloc: Global, lens: &[usize], per_piece: u32) -> Result
 {
     let files = inputs_of_lens(alloc, lens)?;
     plan_by(alloc, NO_RULES, files, per_piece)
-}
-
-/// Makes the plan of run 1 of such files by the tables of a specification.
-pub(crate) fn plan_of(
-    alloc: Global,
-    spec: &str,
-    files: &[(&[u8], bool)],
-    per_piece: u32,
-) -> Result<Plan, AllocError>
-    requires some_files { 0 < length files.now }
-    requires few_files { length files.now ≤ 65536 }
-    requires some_items { 0 < per_piece }
-    requires few_items { per_piece ≤ max_items }
-    ensures run { IfOk result (λ plan. plan.run ≡ 1) }
-    ensures plan { IfOk result IsPlan }
-{
-    let files = inputs(alloc, files)?;
-    plan_by(alloc, spec, files, per_piece)
 }
 
 /// Makes the plan of files of Echoes with these lengths. If an allocation for it fails, the test ends.

@@ -5,8 +5,8 @@ ghost use Rattle.lx_piece.specs.Plans.{files_of};
 ghost use Rattle.lx_piece.specs.Arrivals.{AreHonest};
 
 use crate::asserts::{holds, same};
-use crate::plans::{echoes, plan_of};
-use lx_fixtures::{NO_RULES, among_strangers, last_file_first};
+use crate::plans::echoes;
+use lx_fixtures::{NO_RULES, among_strangers, last_file_first, plan_of};
 use lx_piece::{
     Arrivals, ListArrivals, Mark, Piece, Plan, Reader, ReaderFault, RelayFault, Reply, Why, relay,
 };
