@@ -1,7 +1,8 @@
-"""Compares the released program of dist/ with the one that was built, and starts ./lx in clones of the sources as a newcomer would.
+"""Compares the released program of dist/ with the one that was built, and starts ./lx in copies of the sources as a newcomer would.
 
-Where the sources are those of the release, the program in its archive has to be the built one, byte for byte. From a clone whose sources have the release's
-checksum, ./lx has to start the released program with neither the toolchain nor a compiler on the path. From other sources it has to say why it builds.
+Where the sources are those of the release, the program in its archive has to be the built one, byte for byte. In a copy whose sources have the release's
+checksum, ./lx has to start the released program with neither the toolchain nor a compiler on the path. With other sources it has to say why it builds; that
+is tried with an rt that proves nothing.
 """
 import hashlib
 import os
@@ -15,6 +16,22 @@ from tests.support import TOP, Case
 DIST = TOP / "dist"
 # What ./lx and dist/sources need, beside the shell's own words.
 TOOLS = "awk cat chmod cut dirname find grep gzip head ls mkdir mv readlink rm sha256sum sh sort tac tar uname xargs".split()
+# A toolchain that says of each crate below lx that it is proved, or of one that it isn't, and builds a program that prints its words.
+RT = """#!/bin/sh
+case "$1" in
+all)
+    echo "== lx_ere"
+    echo "src/lib.rt:1:1: error: a goal is open"
+    if [ -n "$FAILS" ]; then
+        printf '== summary\\nlx_ere: failed (1)\\nlx_rules: not run, since lx_ere failed\\n'
+        exit 1
+    fi
+    echo "== lx_rules"
+    printf '== summary\\nlx_ere: ok\\nlx_rules: ok\\n'
+    ;;
+run) mkdir -p out && printf '#!/bin/sh\\necho "built: $*"\\n' >out/lx && chmod +x out/lx ;;
+esac
+"""
 LISTING = "0 T ID 1 0 2 ab\n0 T NUM 1 3 2 12\n"
 
 
@@ -60,9 +77,19 @@ class FirstMinute(Case):
         (folder / "first.txt").write_text("ab 12\n")
         self.text = folder / "first.txt"
 
-    def start(self, *words):
-        ended = support.run(self.top / "lx", *words, env={"PATH": str(self.tools)}, text=True)
+    def start(self, *words, path=None, **environment):
+        ended = support.run(self.top / "lx", *words, env={"PATH": path or str(self.tools), **environment}, text=True)
         return ended.returncode, ended.stdout, ended.stderr
+
+    def path_with_toolchain(self):
+        """Returns a path that has the toolchain that proves nothing, and all else that this path has."""
+        (self.tools / "rt").write_text(RT)
+        (self.tools / "rt").chmod(0o755)
+        return f"{self.tools}:{os.environ['PATH']}"
+
+    def change_source(self):
+        with open(self.top / "crates/lx_ere/src/lib.rt", "a") as source:
+            source.write("// another word\n")
 
     def release_as_it_stands(self):
         """Makes the copy's sources those of the release."""
@@ -77,10 +104,31 @@ class FirstMinute(Case):
 
     def test_changed_source(self):
         self.release_as_it_stands()
-        with open(self.top / "crates/lx_ere/src/lib.rt", "a") as source:
-            source.write("// another word\n")
+        self.change_source()
         why = "lx: not built yet, and the released one was made of other sources; building it takes the toolchain's rt, which isn't on the path\n"
         self.expect("a source that isn't the release's", self.start("--version"), (70, "", why))
+
+    def test_build(self):
+        self.release_as_it_stands()
+        self.change_source()
+        path = self.path_with_toolchain()
+        status, printed, said = self.start("run", "a", path=path)
+        self.expect("the program that was built starts", (status, printed), (0, "built: run a\n"))
+        self.check("why it is built", said.startswith("lx: not built yet, and the released one was made of other sources: proving and building it\n"), said)
+        self.check("how far it is", re.search(r"^build: 2 of 25 crates after 0\.0 minutes; now \w+", said, re.M), said)
+        self.expect("the second start", self.start("run", "b", path=path), (0, "built: run b\n", ""))
+        status, printed, said = self.start("--build", path=path)
+        self.expect("a build in any case starts nothing", (status, printed), (0, ""))
+        self.change_source()
+        status, printed, said = self.start("--version", path=path)
+        self.check("what changed since", "crates/lx_ere/src/lib.rt has changed since the program was built" in said, said)
+
+    def test_failed_build(self):
+        self.release_as_it_stands()
+        self.change_source()
+        status, printed, said = self.start("--version", path=self.path_with_toolchain(), FAILS="1")
+        self.expect("a build that fails", (status, printed), (70, ""))
+        self.check("what is wrong", "build: lx_ere:" in said and "a goal is open" in said and "build: the proofs failed" in said, said)
 
     def test_changed_crate_of_tests(self):
         self.release_as_it_stands()
