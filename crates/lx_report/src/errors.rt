@@ -6,7 +6,7 @@ ghost use Rattle.lx_diagnose.specs.CodeWords.{word_of};
 ghost use Rattle.lx_report.specs.Said.{Extends, TellsFault, code_of, line_of};
 
 use crate::pieces::{place_of, push_line, push_note, push_source};
-use crate::style::Style;
+use crate::subject::Subject;
 use crate::{ReportPlace, Severity};
 use lx_check::TextFault;
 use lx_diagnose::{
@@ -19,23 +19,22 @@ use std::alloc::{AllocError, Global};
 fn push_details(
     alloc: Global,
     text: &mut Vec<u8>,
-    style: &Style<'_>,
-    source: &[u8],
+    subject: &Subject<'_>,
     diagnosis: &Diagnosis,
 ) -> Result<(), AllocError>
     ensures { OnOk result (Extends text.old.items text.new.items) }
 {
-    push_source(alloc, text, source, &diagnosis.place)?;
+    push_source(alloc, text, subject.source, &diagnosis.place)?;
     push_note(
         text,
-        style.file,
+        subject.file,
         place_of(&diagnosis.place),
         hint(diagnosis.cause).as_bytes(),
     )?;
     match &diagnosis.note {
         Some(place) => {
             let words = note_words(diagnosis.cause);
-            push_note(text, style.file, place_of(place), words.as_bytes())
+            push_note(text, subject.file, place_of(place), words.as_bytes())
         }
         None => Ok(()),
     }
@@ -45,20 +44,19 @@ fn push_details(
 fn push_fault_line(
     alloc: Global,
     text: &mut Vec<u8>,
-    style: &Style<'_>,
-    source: &[u8],
+    subject: &Subject<'_>,
     diagnosis: &Diagnosis,
     fault: SpecFault,
 ) -> Result<(), AllocError>
     requires code { diagnose.code_of diagnosis.now.cause ≡ fault.code }
     requires line { diagnosis.now.place.line ≡ fault.line }
-    ensures { OnOk result (TellsFault style.now.file.now (word_of fault.code) fault.line
+    ensures { OnOk result (TellsFault subject.now.file.now (word_of fault.code) fault.line
         text.old.items text.new.items) }
 {
-    let words = sentence(alloc, diagnosis, source)?;
+    let words = sentence(alloc, diagnosis, subject.source)?;
     push_line(
         text,
-        style.file,
+        subject.file,
         Severity::Error,
         place_of(&diagnosis.place),
         code_word(diagnosis.cause).as_bytes(),
@@ -71,24 +69,23 @@ fn push_fault_line(
 fn push_fault(
     alloc: Global,
     text: &mut Vec<u8>,
-    style: &Style<'_>,
-    source: &[u8],
+    subject: &Subject<'_>,
     fault: SpecFault,
 ) -> Result<(), AllocError>
-    ensures { OnOk result (TellsFault style.now.file.now (word_of fault.code) fault.line
+    ensures { OnOk result (TellsFault subject.now.file.now (word_of fault.code) fault.line
         text.old.items text.new.items) }
 {
-    let diagnosis = diagnose(alloc, source, fault)?;
-    push_fault_line(alloc, text, style, source, &diagnosis, fault)?;
-    if style.quiet {
+    let diagnosis = diagnose(alloc, subject.source, fault)?;
+    push_fault_line(alloc, text, subject, &diagnosis, fault)?;
+    if subject.quiet {
         return Ok(());
     }
-    push_details(alloc, text, style, source, &diagnosis)
+    push_details(alloc, text, subject, &diagnosis)
 }
 
 // Appends the fault of a specification that is too large. It has no line number.
-fn push_too_large(text: &mut Vec<u8>, style: &Style<'_>, code: &str) -> Result<(), AllocError>
-    ensures { OnOk result (TellsFault style.now.file.now code.now 0 text.old.items text.new.items) }
+fn push_too_large(text: &mut Vec<u8>, subject: &Subject<'_>, code: &str) -> Result<(), AllocError>
+    ensures { OnOk result (TellsFault subject.now.file.now code.now 0 text.old.items text.new.items) }
 {
     let nowhere = ReportPlace {
         line: 0,
@@ -97,33 +94,32 @@ fn push_too_large(text: &mut Vec<u8>, style: &Style<'_>, code: &str) -> Result<(
     };
     push_line(
         text,
-        style.file,
+        subject.file,
         Severity::Error,
         nowhere,
         code.as_bytes(),
         words_of(code).as_bytes(),
         b"",
     )?;
-    if style.quiet {
+    if subject.quiet {
         return Ok(());
     }
-    push_note(text, style.file, nowhere, advice_of(code).as_bytes())
+    push_note(text, subject.file, nowhere, advice_of(code).as_bytes())
 }
 
 /// Appends a finding of a text that is rejected.
 pub(crate) fn push_error(
     alloc: Global,
     text: &mut Vec<u8>,
-    style: &Style<'_>,
-    source: &[u8],
+    subject: &Subject<'_>,
     finding: TextFault,
 ) -> Result<(), AllocError>
-    ensures { OnOk result (TellsFault style.now.file.now (code_of finding) (line_of finding)
+    ensures { OnOk result (TellsFault subject.now.file.now (code_of finding) (line_of finding)
         text.old.items text.new.items) }
 {
     match finding {
-        TextFault::Specification(fault) => push_fault(alloc, text, style, source, fault),
-        TextFault::TooManyPositions => push_too_large(text, style, "E30"),
-        TextFault::TooManySets => push_too_large(text, style, "E31"),
+        TextFault::Specification(fault) => push_fault(alloc, text, subject, fault),
+        TextFault::TooManyPositions => push_too_large(text, subject, "E30"),
+        TextFault::TooManySets => push_too_large(text, subject, "E31"),
     }
 }

@@ -11,12 +11,12 @@ mod repeated;
 pub mod sarif;
 mod sarif_report;
 pub mod saying;
-pub mod style;
+pub mod subject;
 mod warnings;
 
 pub use crate::sarif_report::sarif_of;
 pub use crate::saying::{Said, report_of};
-pub use crate::style::Style;
+pub use crate::subject::Subject;
 pub use bytes::{push_number, push_shown};
 pub use finding::{Finding, ReportPlace, Severity};
 pub use lines::{push_finding, push_marked};

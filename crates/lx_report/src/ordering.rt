@@ -1,7 +1,7 @@
 //! Orders errors and warnings by their lines, except that the first error comes first.
 
 use crate::repeated::new_findings;
-use crate::style::Style;
+use crate::subject::Subject;
 use crate::warnings::MOST_TOLD;
 use lx_check::Finding;
 use lx_spec::Code;
@@ -63,8 +63,7 @@ fn error_lines(alloc: Global, first: Finding, more: &[Finding]) -> Result<Vec<u3
 // Collects the warnings on lines without an error.
 fn warnings_of_refused(
     alloc: Global,
-    style: &Style<'_>,
-    source: &[u8],
+    subject: &Subject<'_>,
     first: Finding,
     more: &[Finding],
 ) -> Result<Warnings, AllocError> {
@@ -75,7 +74,7 @@ fn warnings_of_refused(
         });
     }
     let lines = error_lines(alloc, first, more)?;
-    warnings_of_rejected(alloc, source, &lines, &style.asked, MOST_TOLD)
+    warnings_of_rejected(alloc, subject.source, &lines, &subject.asked, MOST_TOLD)
 }
 
 // Adds the warnings from number `from` on that come before a line. Returns the number of the first one after them.
@@ -115,13 +114,12 @@ fn entries_of(
 /// Collects what is reported after the first finding: further errors that say something new, and the warnings on lines without an error.
 pub(crate) fn rest_of(
     alloc: Global,
-    style: &Style<'_>,
-    source: &[u8],
+    subject: &Subject<'_>,
     first: Finding,
     more: &[Finding],
 ) -> Result<Rest, AllocError> {
-    let new = new_findings(alloc, source, first, more)?;
-    let warnings = warnings_of_refused(alloc, style, source, first, more)?;
+    let new = new_findings(alloc, subject.source, first, more)?;
+    let warnings = warnings_of_refused(alloc, subject, first, more)?;
     Ok(Rest {
         entries: entries_of(alloc, &new, &warnings.told)?,
         errors: new.len(),

@@ -3,7 +3,7 @@
 use crate::ordering::{Entry, Rest, rest_of};
 use crate::pieces::{place_of, push};
 use crate::saying::Said;
-use crate::style::Style;
+use crate::subject::Subject;
 use crate::warnings::warnings_in;
 use crate::{Finding, ReportPlace, Severity, push_result, push_sarif_end, push_sarif_start};
 use lx_check::{Accepted, Report, TextFault};
@@ -15,12 +15,11 @@ use std::alloc::{AllocError, Global};
 fn push_fault_result(
     alloc: Global,
     text: &mut Vec<u8>,
-    style: &Style<'_>,
-    source: &[u8],
+    subject: &Subject<'_>,
     fault: SpecFault,
 ) -> Result<(), AllocError> {
-    let diagnosis = diagnose(alloc, source, fault)?;
-    let words = sentence(alloc, &diagnosis, source)?;
+    let diagnosis = diagnose(alloc, subject.source, fault)?;
+    let words = sentence(alloc, &diagnosis, subject.source)?;
     let finding = Finding {
         severity: Severity::Error,
         place: place_of(&diagnosis.place),
@@ -28,10 +27,14 @@ fn push_fault_result(
         words: &words,
         name: name_of_cause(diagnosis.cause).as_bytes(),
     };
-    push_result(text, style.file, &finding)
+    push_result(text, subject.file, &finding)
 }
 
-fn push_large_result(text: &mut Vec<u8>, style: &Style<'_>, code: &str) -> Result<(), AllocError> {
+fn push_large_result(
+    text: &mut Vec<u8>,
+    subject: &Subject<'_>,
+    code: &str,
+) -> Result<(), AllocError> {
     let finding = Finding {
         severity: Severity::Error,
         place: ReportPlace {
@@ -43,26 +46,25 @@ fn push_large_result(text: &mut Vec<u8>, style: &Style<'_>, code: &str) -> Resul
         words: words_of(code).as_bytes(),
         name: b"",
     };
-    push_result(text, style.file, &finding)
+    push_result(text, subject.file, &finding)
 }
 
 fn push_error_result(
     alloc: Global,
     text: &mut Vec<u8>,
-    style: &Style<'_>,
-    source: &[u8],
+    subject: &Subject<'_>,
     fault: TextFault,
 ) -> Result<(), AllocError> {
     match fault {
-        TextFault::Specification(fault) => push_fault_result(alloc, text, style, source, fault),
-        TextFault::TooManyPositions => push_large_result(text, style, "E30"),
-        TextFault::TooManySets => push_large_result(text, style, "E31"),
+        TextFault::Specification(fault) => push_fault_result(alloc, text, subject, fault),
+        TextFault::TooManyPositions => push_large_result(text, subject, "E30"),
+        TextFault::TooManySets => push_large_result(text, subject, "E31"),
     }
 }
 
 fn push_warning_result(
     text: &mut Vec<u8>,
-    style: &Style<'_>,
+    subject: &Subject<'_>,
     warning: &Warning,
 ) -> Result<(), AllocError> {
     let finding = Finding {
@@ -72,22 +74,21 @@ fn push_warning_result(
         words: &warning.words,
         name: name_of(warning.kind).as_bytes(),
     };
-    push_result(text, style.file, &finding)
+    push_result(text, subject.file, &finding)
 }
 
 fn push_entry_result(
     alloc: Global,
     text: &mut Vec<u8>,
-    style: &Style<'_>,
-    source: &[u8],
+    subject: &Subject<'_>,
     rest: &Rest,
     entry: Entry,
 ) -> Result<(), AllocError> {
     match entry {
-        Entry::Error(fault) => push_error_result(alloc, text, style, source, fault),
+        Entry::Error(fault) => push_error_result(alloc, text, subject, fault),
         Entry::Warning(number) => {
             if number < rest.warnings.told.len() {
-                return push_warning_result(text, style, &rest.warnings.told[number]);
+                return push_warning_result(text, subject, &rest.warnings.told[number]);
             }
             Ok(())
         }
@@ -98,18 +99,17 @@ fn push_entry_result(
 fn push_error_results(
     alloc: Global,
     text: &mut Vec<u8>,
-    style: &Style<'_>,
-    source: &[u8],
+    subject: &Subject<'_>,
     faults: &[TextFault],
 ) -> Result<usize, AllocError> {
     let Some((first, more)) = faults.split_first() else {
         return Ok(0);
     };
-    push_error_result(alloc, text, style, source, *first)?;
-    let rest = rest_of(alloc, style, source, *first, more)?;
+    push_error_result(alloc, text, subject, *first)?;
+    let rest = rest_of(alloc, subject, *first, more)?;
     for entry in &rest.entries {
         push(text, b",\n")?;
-        push_entry_result(alloc, text, style, source, &rest, *entry)?;
+        push_entry_result(alloc, text, subject, &rest, *entry)?;
     }
     Ok(rest.warnings.count)
 }
@@ -117,17 +117,16 @@ fn push_error_results(
 fn push_warning_results(
     alloc: Global,
     text: &mut Vec<u8>,
-    style: &Style<'_>,
-    source: &[u8],
+    subject: &Subject<'_>,
     accepted: &Accepted,
 ) -> Result<usize, AllocError> {
-    let warnings = warnings_in(alloc, style, source, accepted)?;
+    let warnings = warnings_in(alloc, subject, accepted)?;
     for i in 0..warnings.told.len() {
         // a comma separates two results
         if 0 < i {
             push(text, b",\n")?;
         }
-        push_warning_result(text, style, &warnings.told[i])?;
+        push_warning_result(text, subject, &warnings.told[i])?;
     }
     Ok(warnings.count)
 }
@@ -135,18 +134,15 @@ fn push_warning_results(
 /// Makes the SARIF 2.1.0 output on a specification's text from its report. `version` is that of the program. Err: an allocation failed.
 pub fn sarif_of(
     alloc: Global,
-    style: &Style<'_>,
+    subject: &Subject<'_>,
     version: &[u8],
-    source: &[u8],
     report: &Report,
 ) -> Result<Said, AllocError> {
     let mut text = Vec::new(alloc);
     push_sarif_start(&mut text, version)?;
     let warnings = match report {
-        Report::Refused(faults) => { push_error_results(alloc, &mut text, style, source, faults)? }
-        Report::Accepted(accepted) => {
-            push_warning_results(alloc, &mut text, style, source, accepted)?
-        }
+        Report::Refused(faults) => { push_error_results(alloc, &mut text, subject, faults)? }
+        Report::Accepted(accepted) => { push_warning_results(alloc, &mut text, subject, accepted)? }
     };
     push_sarif_end(&mut text)?;
     Ok(Said { text, warnings })

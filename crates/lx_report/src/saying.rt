@@ -8,7 +8,7 @@ ghost use Rattle.lx_warnings.specs.Kinds.{has_kind};
 use crate::errors::push_error;
 use crate::ordering::{Entry, Rest, rest_of};
 use crate::pieces::{push_count, push_shown_and};
-use crate::style::Style;
+use crate::subject::Subject;
 use crate::warnings::{push_accepted, push_warning};
 use lx_check::{Report, TextFault};
 use std::alloc::{AllocError, Global};
@@ -26,18 +26,17 @@ pub struct Said {
 fn push_entry(
     alloc: Global,
     text: &mut Vec<u8>,
-    style: &Style<'_>,
-    source: &[u8],
+    subject: &Subject<'_>,
     rest: &Rest,
     entry: Entry,
 ) -> Result<(), AllocError>
     ensures { OnOk result (Extends text.old.items text.new.items) }
 {
     match entry {
-        Entry::Error(finding) => push_error(alloc, text, style, source, finding),
+        Entry::Error(finding) => push_error(alloc, text, subject, finding),
         Entry::Warning(number) => {
             if number < rest.warnings.told.len() {
-                return push_warning(alloc, text, style, source, &rest.warnings.told[number]);
+                return push_warning(alloc, text, subject, &rest.warnings.told[number]);
             }
             Ok(())
         }
@@ -48,14 +47,13 @@ fn push_entry(
 fn push_further(
     alloc: Global,
     text: &mut Vec<u8>,
-    style: &Style<'_>,
-    source: &[u8],
+    subject: &Subject<'_>,
     rest: &Rest,
 ) -> Result<(), AllocError>
     ensures { OnOk result (Extends text.old.items text.new.items) }
 {
     for entry in &rest.entries {
-        push_entry(alloc, text, style, source, rest, *entry)?;
+        push_entry(alloc, text, subject, rest, *entry)?;
     }
     Ok(())
 }
@@ -71,19 +69,19 @@ fn push_numbers(text: &mut Vec<u8>, errors: usize, warnings: usize) -> Result<()
     push_count(text, warnings, b" warning\n", b" warnings\n")
 }
 
-// Appends the numbers of errors and warnings, unless the style is quiet.
+// Appends the numbers of errors and warnings, unless the report is quiet.
 fn push_end(
     text: &mut Vec<u8>,
-    style: &Style<'_>,
+    subject: &Subject<'_>,
     errors: usize,
     warnings: usize,
 ) -> Result<(), AllocError>
     ensures { OnOk result (Extends text.old.items text.new.items) }
 {
-    if style.quiet {
+    if subject.quiet {
         return Ok(());
     }
-    push_shown_and(text, style.file, b": ")?;
+    push_shown_and(text, subject.file, b": ")?;
     push_numbers(text, errors, warnings)
 }
 
@@ -91,17 +89,16 @@ fn push_end(
 fn push_rest(
     alloc: Global,
     text: &mut Vec<u8>,
-    style: &Style<'_>,
-    source: &[u8],
+    subject: &Subject<'_>,
     first: TextFault,
     more: &[TextFault],
 ) -> Result<usize, AllocError>
     ensures { IfOk result (λ _. Extends text.old.items text.new.items) }
 {
-    let rest = rest_of(alloc, style, source, first, more)?;
-    push_further(alloc, text, style, source, &rest)?;
+    let rest = rest_of(alloc, subject, first, more)?;
+    push_further(alloc, text, subject, &rest)?;
     let warnings = rest.warnings.count;
-    push_end(text, style, rest.errors.saturating_add(1), warnings)?;
+    push_end(text, subject, rest.errors.saturating_add(1), warnings)?;
     Ok(warnings)
 }
 
@@ -109,40 +106,34 @@ fn push_rest(
 fn push_errors(
     alloc: Global,
     text: &mut Vec<u8>,
-    style: &Style<'_>,
-    source: &[u8],
+    subject: &Subject<'_>,
     findings: &[TextFault],
 ) -> Result<usize, AllocError>
     ensures { IfOk result
-        (λ _. text.old.items ≡ [] → TellsFirst style.now.file.now findings.now text.new.items) }
+        (λ _. text.old.items ≡ [] → TellsFirst subject.now.file.now findings.now text.new.items) }
 {
     let Some((first, more)) = findings.split_first() else {
         return Ok(0);
     };
-    push_error(alloc, text, style, source, *first)?;
-    push_rest(alloc, text, style, source, *first, more)
+    push_error(alloc, text, subject, *first)?;
+    push_rest(alloc, text, subject, *first, more)
 }
 
 /// Makes the output on a specification's text from its report, as lines. For a rejected text: its faults, each with the source line and what to do,
 /// and between them its warnings on other lines. For an accepted one: its warnings, its sizes, and the bytes that no rule takes. Err: an allocation
 /// failed.
-pub fn report_of(
-    alloc: Global,
-    style: &Style<'_>,
-    source: &[u8],
-    report: &Report,
-) -> Result<Said, AllocError>
+pub fn report_of(alloc: Global, subject: &Subject<'_>, report: &Report) -> Result<Said, AllocError>
     ensures verdict { IfOk result
-        (λ said. TellsVerdict style.now.file.now report.now said.text.items) }
+        (λ said. TellsVerdict subject.now.file.now report.now said.text.items) }
     ensures warnings { IfOk result (λ said.
         IfAccepted (λ accepted.
-        TellsWarnings style.now.file.now style.now.quiet (has_kind style.now.asked)
+        TellsWarnings subject.now.file.now subject.now.quiet (has_kind subject.now.asked)
         said.warnings said.text.items) report.now) }
 {
     let mut text = Vec::new(alloc);
     let warnings = match report {
-        Report::Refused(findings) => push_errors(alloc, &mut text, style, source, findings)?,
-        Report::Accepted(accepted) => push_accepted(alloc, &mut text, style, source, accepted)?,
+        Report::Refused(findings) => push_errors(alloc, &mut text, subject, findings)?,
+        Report::Accepted(accepted) => push_accepted(alloc, &mut text, subject, accepted)?,
     };
     Ok(Said { text, warnings })
 }

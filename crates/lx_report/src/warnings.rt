@@ -6,7 +6,7 @@ ghost use Rattle.lx_report.specs.Said.{Extends, AreAsked, BeginsWithWarning, Tel
 
 use crate::Severity;
 use crate::pieces::{place_of, push_count, push_line, push_shown_and, push_source};
-use crate::style::Style;
+use crate::subject::Subject;
 use lx_check::{Accepted, Counts};
 use lx_warnings::{Known, Warning, Warnings, name_of, untaken_bytes, warnings_of};
 use std::alloc::{AllocError, Global};
@@ -14,14 +14,13 @@ use std::alloc::{AllocError, Global};
 /// Greatest number of warnings that are reported. Further ones are only counted.
 pub(crate) const MOST_TOLD: usize = 100;
 
-/// Collects the warnings that the style asks for, ordered by their places.
+/// Collects the warnings that are asked for, ordered by their places.
 pub(crate) fn warnings_in(
     alloc: Global,
-    style: &Style<'_>,
-    source: &[u8],
+    subject: &Subject<'_>,
     accepted: &Accepted,
 ) -> Result<Warnings, AllocError>
-    ensures asked { IfOk result (λ warnings. AreAsked style.now.asked warnings.told.items) }
+    ensures asked { IfOk result (λ warnings. AreAsked subject.now.asked warnings.told.items) }
     ensures most { IfOk result (λ warnings. length warnings.told.items ≡ min warnings.count 100) }
 {
     let known = Known {
@@ -31,47 +30,45 @@ pub(crate) fn warnings_in(
         entered: &accepted.entered,
         takers: &accepted.takers,
     };
-    warnings_of(alloc, source, &known, &style.asked, MOST_TOLD)
+    warnings_of(alloc, subject.source, &known, &subject.asked, MOST_TOLD)
 }
 
 /// Appends a warning, with the source line.
 pub(crate) fn push_warning(
     alloc: Global,
     text: &mut Vec<u8>,
-    style: &Style<'_>,
-    source: &[u8],
+    subject: &Subject<'_>,
     warning: &Warning,
 ) -> Result<(), AllocError>
     ensures tells { OnOk result
-        (TellsWarning style.now.file.now warning.now.kind text.old.items text.new.items) }
+        (TellsWarning subject.now.file.now warning.now.kind text.old.items text.new.items) }
     ensures extends { OnOk result (Extends text.old.items text.new.items) }
 {
     push_line(
         text,
-        style.file,
+        subject.file,
         Severity::Warning,
         place_of(&warning.place),
         b"",
         &warning.words,
         name_of(warning.kind).as_bytes(),
     )?;
-    if style.quiet {
+    if subject.quiet {
         return Ok(());
     }
-    push_source(alloc, text, source, &warning.place)
+    push_source(alloc, text, subject.source, &warning.place)
 }
 
 fn push_all(
     alloc: Global,
     text: &mut Vec<u8>,
-    style: &Style<'_>,
-    source: &[u8],
+    subject: &Subject<'_>,
     warnings: &[Warning],
 ) -> Result<(), AllocError>
     ensures { OnOk result (Extends text.old.items text.new.items) }
 {
     for warning in warnings {
-        push_warning(alloc, text, style, source, warning)?;
+        push_warning(alloc, text, subject, warning)?;
     }
     Ok(())
 }
@@ -80,21 +77,20 @@ fn push_all(
 fn push_warnings(
     alloc: Global,
     text: &mut Vec<u8>,
-    style: &Style<'_>,
-    source: &[u8],
+    subject: &Subject<'_>,
     accepted: &Accepted,
 ) -> Result<usize, AllocError>
     ensures none { IfOk result (λ count. count ≡ 0 → text.new.items ≡ text.old.items) }
     ensures first { IfOk result (λ count.
         0 < count → text.old.items ≡ []
-        → BeginsWithWarning style.now.file.now (has_kind style.now.asked) text.new.items) }
+        → BeginsWithWarning subject.now.file.now (has_kind subject.now.asked) text.new.items) }
 {
-    let warnings = warnings_in(alloc, style, source, accepted)?;
+    let warnings = warnings_in(alloc, subject, accepted)?;
     let Some((first, more)) = warnings.told.split_first() else {
         return Ok(warnings.count);
     };
-    push_warning(alloc, text, style, source, first)?;
-    push_all(alloc, text, style, source, more)?;
+    push_warning(alloc, text, subject, first)?;
+    push_all(alloc, text, subject, more)?;
     Ok(warnings.count)
 }
 
@@ -135,7 +131,7 @@ fn push_counts(text: &mut Vec<u8>, counts: &Counts) -> Result<(), AllocError>
 fn push_echoed(
     alloc: Global,
     text: &mut Vec<u8>,
-    style: &Style<'_>,
+    subject: &Subject<'_>,
     accepted: &Accepted,
     condition: u16,
 ) -> Result<(), AllocError>
@@ -151,7 +147,7 @@ fn push_echoed(
         return Ok(());
     }
     let name = &accepted.spec.conditions[usize::from(condition)].name;
-    push_shown_and(text, style.file, b": in ")?;
+    push_shown_and(text, subject.file, b": in ")?;
     push_shown_and(text, name, b" no rule takes [")?;
     push_shown_and(text, &bytes, b"]: such bytes are echoed\n")
 }
@@ -161,7 +157,7 @@ fn push_echoed(
 fn push_all_echoed(
     alloc: Global,
     text: &mut Vec<u8>,
-    style: &Style<'_>,
+    subject: &Subject<'_>,
     accepted: &Accepted,
 ) -> Result<(), AllocError>
     ensures { OnOk result (Extends text.old.items text.new.items) }
@@ -170,7 +166,7 @@ fn push_all_echoed(
         if usize::from(condition) < accepted.entered.len()
             && accepted.entered[usize::from(condition)]
         {
-            push_echoed(alloc, text, style, accepted, condition)?;
+            push_echoed(alloc, text, subject, accepted, condition)?;
         }
     }
     Ok(())
@@ -180,35 +176,34 @@ fn push_all_echoed(
 fn push_summary(
     alloc: Global,
     text: &mut Vec<u8>,
-    style: &Style<'_>,
+    subject: &Subject<'_>,
     accepted: &Accepted,
     warnings: usize,
 ) -> Result<(), AllocError>
-    ensures { OnOk result (TellsSummary style.now.file.now text.old.items text.new.items) }
+    ensures { OnOk result (TellsSummary subject.now.file.now text.old.items text.new.items) }
 {
-    push_shown_and(text, style.file, b": accepted: ")?;
+    push_shown_and(text, subject.file, b": accepted: ")?;
     push_counts(text, &accepted.counts)?;
     push_count(text, warnings, b" warning\n", b" warnings\n")?;
-    push_all_echoed(alloc, text, style, accepted)
+    push_all_echoed(alloc, text, subject, accepted)
 }
 
 /// Appends the output on an accepted specification. Returns the number of its warnings.
 pub(crate) fn push_accepted(
     alloc: Global,
     text: &mut Vec<u8>,
-    style: &Style<'_>,
-    source: &[u8],
+    subject: &Subject<'_>,
     accepted: &Accepted,
 ) -> Result<usize, AllocError>
     ensures { IfOk result (λ count.
         text.old.items ≡ []
-        → TellsWarnings style.now.file.now style.now.quiet (has_kind style.now.asked) count
+        → TellsWarnings subject.now.file.now subject.now.quiet (has_kind subject.now.asked) count
         text.new.items) }
 {
-    let count = push_warnings(alloc, text, style, source, accepted)?;
-    if style.quiet {
+    let count = push_warnings(alloc, text, subject, accepted)?;
+    if subject.quiet {
         return Ok(count);
     }
-    push_summary(alloc, text, style, accepted, count)?;
+    push_summary(alloc, text, subject, accepted, count)?;
     Ok(count)
 }

@@ -16,7 +16,7 @@ use crate::output::write_text;
 use crate::source::Sources;
 use lx_check::{Report, check};
 use lx_cli::{CheckWords, VERSION};
-use lx_report::{Said, Style, report_of, sarif_of};
+use lx_report::{Said, Subject, report_of, sarif_of};
 use lx_warnings::{KindSet, kind_named};
 use std::alloc::{AllocError, Global};
 use std::io::Write;
@@ -134,15 +134,16 @@ fn said_by(
         TellsWarnings words.now.rules.now words.now.quiet (has_kind warnings.kinds)
         said.warnings said.text.items) report.now) }
 {
-    let style = Style {
+    let subject = Subject {
         file: words.rules.as_bytes(),
+        source: text,
         quiet: words.quiet,
         asked: warnings.kinds,
     };
     if words.json {
-        sarif_of(alloc, &style, version_number().as_bytes(), text, report)
+        sarif_of(alloc, &subject, version_number().as_bytes(), report)
     } else {
-        report_of(alloc, &style, text, report)
+        report_of(alloc, &subject, report)
     }
 }
 

@@ -7,7 +7,7 @@ use Rattle.lx_report.proofs.errors.push_fault_line.Goals as goal
 
 pub returns : goal.returns
 returns c =
-    let file = c.args.style.now.file.now in
+    let file = c.args.subject.now.file.now in
     let code = c.as_bytes.ensures.value ∙ (c.code_word.ensures ∙ ap word_of c.requires.code) in
     on_ok_weaker c.push_line.result
     (λ h. subst (λ word. TellsFault file word c.args.fault.line c.args.text.now.items c.push_line.new.text.items) code
