@@ -6,7 +6,7 @@ ghost use Rattle.lx_diagnose.specs.CodeWords.{word_of};
 ghost use Rattle.lx_report.specs.Said.{Extends, TellsFault, code_of, line_of};
 
 use crate::pieces::{place_of, push_line, push_note, push_source};
-use crate::subject::Subject;
+use crate::subject::ReportSubject;
 use crate::{ReportPlace, Severity};
 use lx_check::TextFault;
 use lx_diagnose::{
@@ -19,7 +19,7 @@ use std::alloc::{AllocError, Global};
 fn push_details(
     alloc: Global,
     text: &mut Vec<u8>,
-    subject: &Subject<'_>,
+    subject: &ReportSubject<'_>,
     diagnosis: &Diagnosis,
 ) -> Result<(), AllocError>
     ensures { OnOk result (Extends text.old.items text.new.items) }
@@ -44,7 +44,7 @@ fn push_details(
 fn push_fault_line(
     alloc: Global,
     text: &mut Vec<u8>,
-    subject: &Subject<'_>,
+    subject: &ReportSubject<'_>,
     diagnosis: &Diagnosis,
     fault: SpecFault,
 ) -> Result<(), AllocError>
@@ -69,7 +69,7 @@ fn push_fault_line(
 fn push_fault(
     alloc: Global,
     text: &mut Vec<u8>,
-    subject: &Subject<'_>,
+    subject: &ReportSubject<'_>,
     fault: SpecFault,
 ) -> Result<(), AllocError>
     ensures { OnOk result (TellsFault subject.now.file.now (word_of fault.code) fault.line
@@ -84,7 +84,11 @@ fn push_fault(
 }
 
 // Appends the fault of a specification that is too large. It has no line number.
-fn push_too_large(text: &mut Vec<u8>, subject: &Subject<'_>, code: &str) -> Result<(), AllocError>
+fn push_too_large(
+    text: &mut Vec<u8>,
+    subject: &ReportSubject<'_>,
+    code: &str,
+) -> Result<(), AllocError>
     ensures { OnOk result (TellsFault subject.now.file.now code.now 0 text.old.items text.new.items) }
 {
     let nowhere = ReportPlace {
@@ -111,7 +115,7 @@ fn push_too_large(text: &mut Vec<u8>, subject: &Subject<'_>, code: &str) -> Resu
 pub(crate) fn push_error(
     alloc: Global,
     text: &mut Vec<u8>,
-    subject: &Subject<'_>,
+    subject: &ReportSubject<'_>,
     finding: TextFault,
 ) -> Result<(), AllocError>
     ensures { OnOk result (TellsFault subject.now.file.now (code_of finding) (line_of finding)

@@ -16,7 +16,7 @@ mod warnings;
 
 pub use crate::sarif_report::sarif_of;
 pub use crate::saying::{Said, report_of};
-pub use crate::subject::Subject;
+pub use crate::subject::ReportSubject;
 pub use bytes::{push_number, push_shown};
 pub use finding::{Finding, ReportPlace, Severity};
 pub use lines::{push_finding, push_marked};

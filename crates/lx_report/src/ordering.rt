@@ -1,7 +1,7 @@
 //! Orders errors and warnings by their lines, except that the first error comes first.
 
 use crate::repeated::new_findings;
-use crate::subject::Subject;
+use crate::subject::ReportSubject;
 use crate::warnings::MOST_TOLD;
 use lx_check::Finding;
 use lx_spec::Code;
@@ -63,7 +63,7 @@ fn error_lines(alloc: Global, first: Finding, more: &[Finding]) -> Result<Vec<u3
 // Collects the warnings on lines without an error.
 fn warnings_of_refused(
     alloc: Global,
-    subject: &Subject<'_>,
+    subject: &ReportSubject<'_>,
     first: Finding,
     more: &[Finding],
 ) -> Result<Warnings, AllocError> {
@@ -114,7 +114,7 @@ fn entries_of(
 /// Collects what is reported after the first finding: further errors that say something new, and the warnings on lines without an error.
 pub(crate) fn rest_of(
     alloc: Global,
-    subject: &Subject<'_>,
+    subject: &ReportSubject<'_>,
     first: Finding,
     more: &[Finding],
 ) -> Result<Rest, AllocError> {

@@ -3,7 +3,7 @@
 use crate::ordering::{Entry, Rest, rest_of};
 use crate::pieces::{place_of, push};
 use crate::saying::Said;
-use crate::subject::Subject;
+use crate::subject::ReportSubject;
 use crate::warnings::warnings_in;
 use crate::{Finding, ReportPlace, Severity, push_result, push_sarif_end, push_sarif_start};
 use lx_check::{Accepted, Report, TextFault};
@@ -15,7 +15,7 @@ use std::alloc::{AllocError, Global};
 fn push_fault_result(
     alloc: Global,
     text: &mut Vec<u8>,
-    subject: &Subject<'_>,
+    subject: &ReportSubject<'_>,
     fault: SpecFault,
 ) -> Result<(), AllocError> {
     let diagnosis = diagnose(alloc, subject.source, fault)?;
@@ -32,7 +32,7 @@ fn push_fault_result(
 
 fn push_large_result(
     text: &mut Vec<u8>,
-    subject: &Subject<'_>,
+    subject: &ReportSubject<'_>,
     code: &str,
 ) -> Result<(), AllocError> {
     let finding = Finding {
@@ -52,7 +52,7 @@ fn push_large_result(
 fn push_error_result(
     alloc: Global,
     text: &mut Vec<u8>,
-    subject: &Subject<'_>,
+    subject: &ReportSubject<'_>,
     fault: TextFault,
 ) -> Result<(), AllocError> {
     match fault {
@@ -64,7 +64,7 @@ fn push_error_result(
 
 fn push_warning_result(
     text: &mut Vec<u8>,
-    subject: &Subject<'_>,
+    subject: &ReportSubject<'_>,
     warning: &Warning,
 ) -> Result<(), AllocError> {
     let finding = Finding {
@@ -80,7 +80,7 @@ fn push_warning_result(
 fn push_entry_result(
     alloc: Global,
     text: &mut Vec<u8>,
-    subject: &Subject<'_>,
+    subject: &ReportSubject<'_>,
     rest: &Rest,
     entry: Entry,
 ) -> Result<(), AllocError> {
@@ -99,7 +99,7 @@ fn push_entry_result(
 fn push_error_results(
     alloc: Global,
     text: &mut Vec<u8>,
-    subject: &Subject<'_>,
+    subject: &ReportSubject<'_>,
     faults: &[TextFault],
 ) -> Result<usize, AllocError> {
     let Some((first, more)) = faults.split_first() else {
@@ -117,7 +117,7 @@ fn push_error_results(
 fn push_warning_results(
     alloc: Global,
     text: &mut Vec<u8>,
-    subject: &Subject<'_>,
+    subject: &ReportSubject<'_>,
     accepted: &Accepted,
 ) -> Result<usize, AllocError> {
     let warnings = warnings_in(alloc, subject, accepted)?;
@@ -134,7 +134,7 @@ fn push_warning_results(
 /// Makes the SARIF 2.1.0 output on a specification's text from its report. `version` is that of the program. Err: an allocation failed.
 pub fn sarif_of(
     alloc: Global,
-    subject: &Subject<'_>,
+    subject: &ReportSubject<'_>,
     version: &[u8],
     report: &Report,
 ) -> Result<Said, AllocError> {

@@ -8,7 +8,7 @@ ghost use Rattle.lx_warnings.specs.Kinds.{has_kind};
 use crate::errors::push_error;
 use crate::ordering::{Entry, Rest, rest_of};
 use crate::pieces::{push_count, push_shown_and};
-use crate::subject::Subject;
+use crate::subject::ReportSubject;
 use crate::warnings::{push_accepted, push_warning};
 use lx_check::{Report, TextFault};
 use std::alloc::{AllocError, Global};
@@ -26,7 +26,7 @@ pub struct Said {
 fn push_entry(
     alloc: Global,
     text: &mut Vec<u8>,
-    subject: &Subject<'_>,
+    subject: &ReportSubject<'_>,
     rest: &Rest,
     entry: Entry,
 ) -> Result<(), AllocError>
@@ -47,7 +47,7 @@ fn push_entry(
 fn push_further(
     alloc: Global,
     text: &mut Vec<u8>,
-    subject: &Subject<'_>,
+    subject: &ReportSubject<'_>,
     rest: &Rest,
 ) -> Result<(), AllocError>
     ensures { OnOk result (Extends text.old.items text.new.items) }
@@ -72,7 +72,7 @@ fn push_numbers(text: &mut Vec<u8>, errors: usize, warnings: usize) -> Result<()
 // Appends the numbers of errors and warnings, unless the report is quiet.
 fn push_end(
     text: &mut Vec<u8>,
-    subject: &Subject<'_>,
+    subject: &ReportSubject<'_>,
     errors: usize,
     warnings: usize,
 ) -> Result<(), AllocError>
@@ -89,7 +89,7 @@ fn push_end(
 fn push_rest(
     alloc: Global,
     text: &mut Vec<u8>,
-    subject: &Subject<'_>,
+    subject: &ReportSubject<'_>,
     first: TextFault,
     more: &[TextFault],
 ) -> Result<usize, AllocError>
@@ -106,7 +106,7 @@ fn push_rest(
 fn push_errors(
     alloc: Global,
     text: &mut Vec<u8>,
-    subject: &Subject<'_>,
+    subject: &ReportSubject<'_>,
     findings: &[TextFault],
 ) -> Result<usize, AllocError>
     ensures { IfOk result
@@ -122,7 +122,11 @@ fn push_errors(
 /// Makes the output on a specification's text from its report, as lines. For a rejected text: its faults, each with the source line and what to do,
 /// and between them its warnings on other lines. For an accepted one: its warnings, its sizes, and the bytes that no rule takes. Err: an allocation
 /// failed.
-pub fn report_of(alloc: Global, subject: &Subject<'_>, report: &Report) -> Result<Said, AllocError>
+pub fn report_of(
+    alloc: Global,
+    subject: &ReportSubject<'_>,
+    report: &Report,
+) -> Result<Said, AllocError>
     ensures verdict { IfOk result
         (λ said. TellsVerdict subject.now.file.now report.now said.text.items) }
     ensures warnings { IfOk result (λ said.

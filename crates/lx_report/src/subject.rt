@@ -4,7 +4,7 @@ use lx_warnings::KindSet;
 
 /// The specification that a report is about, the form of findings, and the warnings that are asked for.
 #[derive(Clone, Copy, Debug, Drop)]
-pub struct Subject<'a> {
+pub struct ReportSubject<'a> {
     /// Name of the specification.
     pub file: &'a [u8],
     /// Text of the specification.

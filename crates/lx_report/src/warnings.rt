@@ -6,7 +6,7 @@ ghost use Rattle.lx_report.specs.Said.{Extends, AreAsked, BeginsWithWarning, Tel
 
 use crate::Severity;
 use crate::pieces::{place_of, push_count, push_line, push_shown_and, push_source};
-use crate::subject::Subject;
+use crate::subject::ReportSubject;
 use lx_check::{Accepted, Counts};
 use lx_warnings::{Known, Warning, Warnings, name_of, untaken_bytes, warnings_of};
 use std::alloc::{AllocError, Global};
@@ -17,7 +17,7 @@ pub(crate) const MOST_TOLD: usize = 100;
 /// Collects the warnings that are asked for, ordered by their places.
 pub(crate) fn warnings_in(
     alloc: Global,
-    subject: &Subject<'_>,
+    subject: &ReportSubject<'_>,
     accepted: &Accepted,
 ) -> Result<Warnings, AllocError>
     ensures asked { IfOk result (λ warnings. AreAsked subject.now.asked warnings.told.items) }
@@ -37,7 +37,7 @@ pub(crate) fn warnings_in(
 pub(crate) fn push_warning(
     alloc: Global,
     text: &mut Vec<u8>,
-    subject: &Subject<'_>,
+    subject: &ReportSubject<'_>,
     warning: &Warning,
 ) -> Result<(), AllocError>
     ensures tells { OnOk result
@@ -62,7 +62,7 @@ pub(crate) fn push_warning(
 fn push_all(
     alloc: Global,
     text: &mut Vec<u8>,
-    subject: &Subject<'_>,
+    subject: &ReportSubject<'_>,
     warnings: &[Warning],
 ) -> Result<(), AllocError>
     ensures { OnOk result (Extends text.old.items text.new.items) }
@@ -77,7 +77,7 @@ fn push_all(
 fn push_warnings(
     alloc: Global,
     text: &mut Vec<u8>,
-    subject: &Subject<'_>,
+    subject: &ReportSubject<'_>,
     accepted: &Accepted,
 ) -> Result<usize, AllocError>
     ensures none { IfOk result (λ count. count ≡ 0 → text.new.items ≡ text.old.items) }
@@ -131,7 +131,7 @@ fn push_counts(text: &mut Vec<u8>, counts: &Counts) -> Result<(), AllocError>
 fn push_echoed(
     alloc: Global,
     text: &mut Vec<u8>,
-    subject: &Subject<'_>,
+    subject: &ReportSubject<'_>,
     accepted: &Accepted,
     condition: u16,
 ) -> Result<(), AllocError>
@@ -157,7 +157,7 @@ fn push_echoed(
 fn push_all_echoed(
     alloc: Global,
     text: &mut Vec<u8>,
-    subject: &Subject<'_>,
+    subject: &ReportSubject<'_>,
     accepted: &Accepted,
 ) -> Result<(), AllocError>
     ensures { OnOk result (Extends text.old.items text.new.items) }
@@ -176,7 +176,7 @@ fn push_all_echoed(
 fn push_summary(
     alloc: Global,
     text: &mut Vec<u8>,
-    subject: &Subject<'_>,
+    subject: &ReportSubject<'_>,
     accepted: &Accepted,
     warnings: usize,
 ) -> Result<(), AllocError>
@@ -192,7 +192,7 @@ fn push_summary(
 pub(crate) fn push_accepted(
     alloc: Global,
     text: &mut Vec<u8>,
-    subject: &Subject<'_>,
+    subject: &ReportSubject<'_>,
     accepted: &Accepted,
 ) -> Result<usize, AllocError>
     ensures { IfOk result (λ count.

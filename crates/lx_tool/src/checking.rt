@@ -16,7 +16,7 @@ use crate::output::write_text;
 use crate::source::Sources;
 use lx_check::{Report, check};
 use lx_cli::{CheckWords, VERSION};
-use lx_report::{Said, Subject, report_of, sarif_of};
+use lx_report::{Said, ReportSubject, report_of, sarif_of};
 use lx_warnings::{KindSet, kind_named};
 use std::alloc::{AllocError, Global};
 use std::io::Write;
@@ -134,7 +134,7 @@ fn said_by(
         TellsWarnings words.now.rules.now words.now.quiet (has_kind warnings.kinds)
         said.warnings said.text.items) report.now) }
 {
-    let subject = Subject {
+    let subject = ReportSubject {
         file: words.rules.as_bytes(),
         source: text,
         quiet: words.quiet,

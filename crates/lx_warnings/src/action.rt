@@ -1,12 +1,12 @@
 //! Suspicious parts of actions.
 
 use crate::kinds::{KindSet, WarningKind};
-use crate::suspects::{Suspect, push_part};
+use crate::suspects::{Search, push_part};
 use lx_diagnose::Span;
 use lx_diagnose::words::words_of;
 use lx_spec::action::{Statement, Turn, turn_at};
 use lx_spec::word::Word;
-use std::alloc::{AllocError, Global};
+use std::alloc::AllocError;
 
 // Returns the number of the first word of a statement that has an effect and comes after a return, if there is one.
 fn dead_word(words: &[Word]) -> Option<usize> {
@@ -33,16 +33,16 @@ fn dead_word(words: &[Word]) -> Option<usize> {
 
 /// Examines a well-formed action.
 pub(crate) fn look_at_action(
-    alloc: Global,
-    text: &[u8],
-    found: &mut Vec<Suspect>,
+    search: &mut Search<'_>,
     allowed: &KindSet,
     action: Span,
 ) -> Result<(), AllocError> {
+    let alloc = search.alloc;
+    let text = search.text;
     let words = words_of(alloc, text, action)?;
     match dead_word(&words.words) {
         Some(number) if number < words.places.len() => push_part(
-            found,
+            search,
             allowed,
             WarningKind::DeadStatement,
             words.places[number],

@@ -1,7 +1,7 @@
 //! Bracket expressions that may not mean what their writer intended.
 
 use crate::kinds::{KindSet, WarningKind};
-use crate::suspects::{Suspect, push_part};
+use crate::suspects::{Search, push_part};
 use lx_diagnose::Span;
 use lx_diagnose::places::between;
 use lx_diagnose::scan::{begins_at, find, is_at, part, skip_name};
@@ -46,16 +46,16 @@ pub(crate) fn character_before(text: &[u8], start: usize, end: usize) -> Option<
 
 // Warns of the first multi-byte character in brackets.
 fn look_at_characters(
-    text: &[u8],
-    found: &mut Vec<Suspect>,
+    search: &mut Search<'_>,
     allowed: &KindSet,
     brackets: Span,
 ) -> Result<(), AllocError> {
+    let text = search.text;
     let phrase =
         "`@` is several bytes, and brackets take one of them; write alternatives, as (a|@)";
     for at in brackets.start..brackets.end() {
         if let Some(character) = character_at(text, at, brackets.end()) {
-            return push_part(found, allowed, WarningKind::ManyBytes, character, phrase);
+            return push_part(search, allowed, WarningKind::ManyBytes, character, phrase);
         }
     }
     Ok(())
@@ -63,11 +63,11 @@ fn look_at_characters(
 
 // Warns of a class without its outer brackets.
 fn look_at_class(
-    text: &[u8],
-    found: &mut Vec<Suspect>,
+    search: &mut Search<'_>,
     allowed: &KindSet,
     brackets: Span,
 ) -> Result<(), AllocError> {
+    let text = search.text;
     let phrase = "`@` takes one of its bytes; for the class write [@]";
     let name = brackets.start.saturating_add(2);
     let behind = skip_name(text, name, brackets.end());
@@ -76,7 +76,7 @@ fn look_at_class(
         && begins_at(text, behind, b":]")
         && behind.saturating_add(2) == brackets.end()
     {
-        return push_part(found, allowed, WarningKind::ClassOutside, brackets, phrase);
+        return push_part(search, allowed, WarningKind::ClassOutside, brackets, phrase);
     }
     Ok(())
 }
@@ -126,12 +126,12 @@ fn range_phrase(low: u8, high: u8) -> Option<&'static str> {
 
 // Examines the member of brackets that begins at this position. Returns the position after it.
 fn look_at_member(
-    text: &[u8],
-    found: &mut Vec<Suspect>,
+    search: &mut Search<'_>,
     allowed: &KindSet,
     at: usize,
     end: usize,
 ) -> Result<usize, AllocError> {
+    let text = search.text;
     if let Some(behind) = skip_class(text, at, end) {
         return Ok(behind);
     }
@@ -143,17 +143,17 @@ fn look_at_member(
     let (high, behind_range) = point_at(text, high_at, end);
     if let Some(phrase) = range_phrase(low, high) {
         let range = between(at, behind_range);
-        push_part(found, allowed, WarningKind::WideRange, range, phrase)?;
+        push_part(search, allowed, WarningKind::WideRange, range, phrase)?;
     }
     Ok(behind_range)
 }
 
 fn look_at_ranges(
-    text: &[u8],
-    found: &mut Vec<Suspect>,
+    search: &mut Search<'_>,
     allowed: &KindSet,
     brackets: Span,
 ) -> Result<(), AllocError> {
+    let text = search.text;
     let end = brackets.end().saturating_sub(1);
     let first = brackets.start.saturating_add(1);
     let mut next = if is_at(text, first, b'^') {
@@ -163,7 +163,7 @@ fn look_at_ranges(
     };
     for at in first..end {
         if at == next {
-            next = look_at_member(text, found, allowed, at, end)?;
+            next = look_at_member(search, allowed, at, end)?;
         }
     }
     Ok(())
@@ -171,12 +171,11 @@ fn look_at_ranges(
 
 /// Examines a bracket expression.
 pub(crate) fn look_at_brackets(
-    text: &[u8],
-    found: &mut Vec<Suspect>,
+    search: &mut Search<'_>,
     allowed: &KindSet,
     brackets: Span,
 ) -> Result<(), AllocError> {
-    look_at_class(text, found, allowed, brackets)?;
-    look_at_characters(text, found, allowed, brackets)?;
-    look_at_ranges(text, found, allowed, brackets)
+    look_at_class(search, allowed, brackets)?;
+    look_at_characters(search, allowed, brackets)?;
+    look_at_ranges(search, allowed, brackets)
 }

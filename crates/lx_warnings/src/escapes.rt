@@ -1,7 +1,7 @@
 //! Escapes that may not mean what their writer intended.
 
 use crate::kinds::{KindSet, WarningKind};
-use crate::suspects::{Suspect, push_part};
+use crate::suspects::{Search, push_part};
 use lx_diagnose::Span;
 use lx_diagnose::places::between;
 use lx_diagnose::scan::is_at;
@@ -48,18 +48,18 @@ fn letter_phrase(byte: u8) -> Option<&'static str> {
 
 // Examines an escape with `digits` hexadecimal digits.
 fn look_at_hexadecimal(
-    found: &mut Vec<Suspect>,
+    search: &mut Search<'_>,
     allowed: &KindSet,
     at: Span,
     digits: usize,
 ) -> Result<(), AllocError> {
     if digits == 0 {
         let phrase = "`@` is the letter alone: no hexadecimal digit stands behind it";
-        push_part(found, allowed, WarningKind::LetterEscape, at, phrase)
+        push_part(search, allowed, WarningKind::LetterEscape, at, phrase)
     } else if digits >= LONG {
         let phrase =
             "all digits of `@` are its number; where two are meant, put what stands behind them in quotes of its own";
-        push_part(found, allowed, WarningKind::LongHex, at, phrase)
+        push_part(search, allowed, WarningKind::LongHex, at, phrase)
     } else {
         Ok(())
     }
@@ -67,12 +67,12 @@ fn look_at_hexadecimal(
 
 // Examines the escape whose backslash is at this position.
 fn look_at_escape(
-    text: &[u8],
-    found: &mut Vec<Suspect>,
+    search: &mut Search<'_>,
     allowed: &KindSet,
     start: usize,
     end: usize,
 ) -> Result<(), AllocError> {
+    let text = search.text;
     let first = start.saturating_add(1);
     let behind = start.saturating_add(2);
     if first >= end || first >= text.len() {
@@ -81,12 +81,12 @@ fn look_at_escape(
     if text[first] == b'x' {
         let last = skip_hexadecimal(text, behind, end);
         let digits = last.saturating_sub(behind);
-        return look_at_hexadecimal(found, allowed, between(start, last), digits);
+        return look_at_hexadecimal(search, allowed, between(start, last), digits);
     }
     match letter_phrase(text[first]) {
         Some(phrase) => {
             let letter = between(start, behind);
-            push_part(found, allowed, WarningKind::LetterEscape, letter, phrase)
+            push_part(search, allowed, WarningKind::LetterEscape, letter, phrase)
         }
         None => Ok(()),
     }
@@ -94,15 +94,15 @@ fn look_at_escape(
 
 /// Examines the escapes of a lexeme.
 pub(crate) fn look_at_escapes(
-    text: &[u8],
-    found: &mut Vec<Suspect>,
+    search: &mut Search<'_>,
     allowed: &KindSet,
     lexeme: Span,
 ) -> Result<(), AllocError> {
+    let text = search.text;
     let mut next = lexeme.start;
     for at in lexeme.start..lexeme.end() {
         if at >= next && is_at(text, at, b'\\') {
-            look_at_escape(text, found, allowed, at, lexeme.end())?;
+            look_at_escape(search, allowed, at, lexeme.end())?;
             next = at.saturating_add(2);
         }
     }

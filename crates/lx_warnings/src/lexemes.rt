@@ -4,7 +4,7 @@ use crate::brackets::{character_before, look_at_brackets};
 use crate::branches::{Branch, Branches};
 use crate::escapes::look_at_escapes;
 use crate::kinds::{KindSet, WarningKind};
-use crate::suspects::{Subject, Suspect, push_part, push_suspect};
+use crate::suspects::{Search, Subject, Suspect, push_part, push_suspect};
 use lx_diagnose::Span;
 use lx_diagnose::places::between;
 use lx_diagnose::scan::is_at;
@@ -13,7 +13,7 @@ use std::alloc::AllocError;
 
 // Warns of an interval after several units.
 fn look_at_interval(
-    found: &mut Vec<Suspect>,
+    search: &mut Search<'_>,
     allowed: &KindSet,
     branch: Branch,
     at: Span,
@@ -30,21 +30,21 @@ fn look_at_interval(
             between(branch.last, at.end()),
         ),
     };
-    push_suspect(found, allowed, suspect)
+    push_suspect(search, allowed, suspect)
 }
 
 // Warns of a repeat after a repeat, or after the last byte of a multi-byte character.
 fn look_at_repeat(
-    text: &[u8],
-    found: &mut Vec<Suspect>,
+    search: &mut Search<'_>,
     allowed: &KindSet,
     branches: &Branches,
     at: Span,
 ) -> Result<(), AllocError> {
+    let text = search.text;
     if branches.behind_repeat && is_at(text, at.start, b'?') {
         let both = between(at.start.saturating_sub(1), at.end());
         let phrase = "`@` is not lazy: the longest text is taken";
-        return push_part(found, allowed, WarningKind::Lazy, both, phrase);
+        return push_part(search, allowed, WarningKind::Lazy, both, phrase);
     }
     if branches.innermost.last.saturating_add(1) != at.start {
         return Ok(());
@@ -57,7 +57,7 @@ fn look_at_repeat(
                 phrase: "`@` repeats the last byte of `~` alone; put the character in quotes",
                 subject: Subject::Parts(at, character),
             };
-            push_suspect(found, allowed, suspect)
+            push_suspect(search, allowed, suspect)
         }
         None => Ok(()),
     }
@@ -74,24 +74,20 @@ fn is_curly_at(text: &[u8], at: usize) -> bool {
 }
 
 // Examines a lexeme that is one byte, an escape or brackets.
-fn look_at_set(
-    text: &[u8],
-    found: &mut Vec<Suspect>,
-    allowed: &KindSet,
-    at: Span,
-) -> Result<(), AllocError> {
+fn look_at_set(search: &mut Search<'_>, allowed: &KindSet, at: Span) -> Result<(), AllocError> {
+    let text = search.text;
     if is_at(text, at.start, b'[') {
-        look_at_brackets(text, found, allowed, at)?;
-        look_at_escapes(text, found, allowed, at)
+        look_at_brackets(search, allowed, at)?;
+        look_at_escapes(search, allowed, at)
     } else if is_at(text, at.start, b'\\') {
-        look_at_escapes(text, found, allowed, at)
+        look_at_escapes(search, allowed, at)
     } else if is_curly_at(text, at.start) {
         let mark = Span {
             start: at.start,
             len: 3,
         };
         let phrase = "`@` is three bytes and quotes nothing; write plain quotes";
-        push_part(found, allowed, WarningKind::CurlyQuotes, mark, phrase)
+        push_part(search, allowed, WarningKind::CurlyQuotes, mark, phrase)
     } else {
         Ok(())
     }
@@ -99,21 +95,21 @@ fn look_at_set(
 
 /// Examines the lexeme at this position, which comes after these branches.
 pub(crate) fn look_at_lexeme(
-    text: &[u8],
-    found: &mut Vec<Suspect>,
+    search: &mut Search<'_>,
     allowed: &KindSet,
     branches: &Branches,
     lexeme: &Lexeme,
     at: Span,
 ) -> Result<(), AllocError> {
+    let text = search.text;
     match lexeme {
-        Lexeme::Set(_) => look_at_set(text, found, allowed, at),
-        Lexeme::Quoted(_, _) => look_at_escapes(text, found, allowed, at),
+        Lexeme::Set(_) => look_at_set(search, allowed, at),
+        Lexeme::Quoted(_, _) => look_at_escapes(search, allowed, at),
         // it repeats a text once
         Lexeme::Interval(1, Some(1)) => Ok(()),
-        Lexeme::Interval(_, _) => look_at_interval(found, allowed, branches.innermost, at),
+        Lexeme::Interval(_, _) => look_at_interval(search, allowed, branches.innermost, at),
         Lexeme::Star | Lexeme::Plus | Lexeme::Question => {
-            look_at_repeat(text, found, allowed, branches, at)
+            look_at_repeat(search, allowed, branches, at)
         }
         Lexeme::Name(_) | Lexeme::OpenGroup | Lexeme::CloseGroup | Lexeme::Bar => Ok(()),
     }

@@ -3,12 +3,12 @@
 use crate::branches::{branches_at, take_lexeme};
 use crate::kinds::KindSet;
 use crate::lexemes::look_at_lexeme;
-use crate::suspects::{Suspect, push_once};
+use crate::suspects::{Search, push_once};
 use lx_diagnose::Span;
 use lx_diagnose::places::between;
 use lx_diagnose::scan::{is_at, part};
 use lx_ere::lexeme::lexeme_at;
-use std::alloc::{AllocError, Global};
+use std::alloc::AllocError;
 
 // Returns the position after the `^` of a pattern, if it has one.
 fn skip_caret(text: &[u8], pattern: Span) -> usize {
@@ -21,12 +21,12 @@ fn skip_caret(text: &[u8], pattern: Span) -> usize {
 
 // Adds the suspicious lexemes of a pattern, up to the first unreadable one.
 fn look_at_lexemes(
-    alloc: Global,
-    text: &[u8],
-    found: &mut Vec<Suspect>,
+    search: &mut Search<'_>,
     allowed: &KindSet,
     pattern: Span,
 ) -> Result<(), AllocError> {
+    let alloc = search.alloc;
+    let text = search.text;
     let start = skip_caret(text, pattern);
     let end = pattern.end();
     let mut branches = branches_at(alloc, start);
@@ -39,7 +39,7 @@ fn look_at_lexemes(
             end.saturating_sub(rest.len()),
             end.saturating_sub(behind.len()),
         );
-        look_at_lexeme(text, found, allowed, &branches, &lexeme, at)?;
+        look_at_lexeme(search, allowed, &branches, &lexeme, at)?;
         take_lexeme(&mut branches, &lexeme, at)?;
         rest = behind;
     }
@@ -48,17 +48,15 @@ fn look_at_lexemes(
 
 /// Examines a pattern or a substitute. Reports repeated findings in it once.
 pub(crate) fn look_at_pattern(
-    alloc: Global,
-    text: &[u8],
-    found: &mut Vec<Suspect>,
+    search: &mut Search<'_>,
     allowed: &KindSet,
     pattern: Span,
 ) -> Result<(), AllocError> {
-    let mut here = Vec::new(alloc);
-    look_at_lexemes(alloc, text, &mut here, allowed, pattern)?;
-    let first = found.len();
-    for suspect in &here {
-        push_once(text, found, first, *suspect)?;
+    let mut here = Search::new(search.alloc, search.text);
+    look_at_lexemes(&mut here, allowed, pattern)?;
+    let first = search.found.len();
+    for suspect in &here.found {
+        push_once(search, first, *suspect)?;
     }
     Ok(())
 }

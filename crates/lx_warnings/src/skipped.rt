@@ -2,7 +2,7 @@
 
 use crate::kinds::{KindSet, WarningKind};
 use crate::layout::{Layout, TextPart};
-use crate::suspects::{Suspect, push_part, push_suspect, suspect_at};
+use crate::suspects::{Search, Suspect, push_part, push_suspect, suspect_at};
 use lx_diagnose::places::between;
 use lx_diagnose::scan::{part, skip_blanks};
 use lx_ere::{EreFault, read_pattern};
@@ -78,30 +78,27 @@ fn is_rule(alloc: Global, text: &[u8]) -> Result<bool, AllocError> {
 }
 
 fn look_at_line(
-    alloc: Global,
-    text: &[u8],
-    found: &mut Vec<Suspect>,
+    search: &mut Search<'_>,
     allowed: &KindSet,
     suspect: Suspect,
 ) -> Result<(), AllocError> {
+    let alloc = search.alloc;
+    let text = search.text;
     if !allowed.contains(suspect.kind) && is_rule(alloc, part(text, suspect.at))? {
-        return push_suspect(found, allowed, suspect);
+        return push_suspect(search, allowed, suspect);
     }
     Ok(())
 }
 
 // Examines a line of the rules section that begins with a blank. Either a rule follows the blank, or the blank is the pattern.
-fn look_at_indented(
-    alloc: Global,
-    text: &[u8],
-    found: &mut Vec<Suspect>,
-    line: &TextPart,
-) -> Result<(), AllocError> {
+fn look_at_indented(search: &mut Search<'_>, line: &TextPart) -> Result<(), AllocError> {
+    let alloc = search.alloc;
+    let text = search.text;
     let end = line.at.end();
     let at = between(skip_blanks(text, line.at.start, end), end);
     if is_action_behind_blank(alloc, part(text, at))? {
         let kind = WarningKind::SkippedRule;
-        return push_part(found, &line.allowed, kind, at, BLANK_PHRASE);
+        return push_part(search, &line.allowed, kind, at, BLANK_PHRASE);
     }
     let phrase = if is_no_statement(part(text, at)) {
         "this looks like a rule, and is skipped: a blank begins the line; a blank of a pattern is written \" \" or [ ]"
@@ -109,18 +106,13 @@ fn look_at_indented(
         "this looks like a rule, and is skipped: a blank begins the line"
     };
     let suspect = suspect_at(WarningKind::SkippedRule, at, phrase);
-    look_at_line(alloc, text, found, &line.allowed, suspect)
+    look_at_line(search, &line.allowed, suspect)
 }
 
 /// Examines the lines of the rules section that begin with a blank, and the lines after that section.
-pub(crate) fn look_at_skipped(
-    alloc: Global,
-    text: &[u8],
-    found: &mut Vec<Suspect>,
-    layout: &Layout,
-) -> Result<(), AllocError> {
+pub(crate) fn look_at_skipped(search: &mut Search<'_>, layout: &Layout) -> Result<(), AllocError> {
     for line in &layout.skipped {
-        look_at_indented(alloc, text, found, line)?;
+        look_at_indented(search, line)?;
     }
     for line in &layout.behind {
         let suspect = suspect_at(
@@ -128,7 +120,7 @@ pub(crate) fn look_at_skipped(
             line.at,
             "this looks like a rule, and is skipped: it stands behind the second %%",
         );
-        look_at_line(alloc, text, found, &KindSet::none(), suspect)?;
+        look_at_line(search, &KindSet::none(), suspect)?;
     }
     Ok(())
 }

@@ -3,7 +3,7 @@
 use crate::kinds::{KindSet, WarningKind};
 use lx_diagnose::Span;
 use lx_diagnose::scan::part;
-use std::alloc::AllocError;
+use std::alloc::{AllocError, Global};
 
 /// The parts that are put into a phrase.
 #[derive(Clone, Copy)]
@@ -27,6 +27,25 @@ pub(crate) struct Suspect {
     pub subject: Subject,
 }
 
+/// A search for what is suspicious in a text.
+#[derive(Drop)]
+pub(crate) struct Search<'t> {
+    pub alloc: Global,
+    pub text: &'t [u8],
+    pub found: Vec<Suspect>,
+}
+
+impl<'t> Search<'t> {
+    /// Returns a search that has found nothing.
+    pub fn new(alloc: Global, text: &'t [u8]) -> Search<'t> {
+        Search {
+            alloc,
+            text,
+            found: Vec::new(alloc),
+        }
+    }
+}
+
 /// Returns a finding on a part of the text, which is itself the word in the phrase.
 pub(crate) fn suspect_at(kind: WarningKind, at: Span, phrase: &'static str) -> Suspect {
     Suspect {
@@ -39,23 +58,23 @@ pub(crate) fn suspect_at(kind: WarningKind, at: Span, phrase: &'static str) -> S
 
 /// Adds such a finding, unless its kind is allowed.
 pub(crate) fn push_part(
-    found: &mut Vec<Suspect>,
+    search: &mut Search<'_>,
     allowed: &KindSet,
     kind: WarningKind,
     at: Span,
     phrase: &'static str,
 ) -> Result<(), AllocError> {
-    push_suspect(found, allowed, suspect_at(kind, at, phrase))
+    push_suspect(search, allowed, suspect_at(kind, at, phrase))
 }
 
 /// Adds a finding, unless its kind is allowed.
 pub(crate) fn push_suspect(
-    found: &mut Vec<Suspect>,
+    search: &mut Search<'_>,
     allowed: &KindSet,
     suspect: Suspect,
 ) -> Result<(), AllocError> {
     if !allowed.contains(suspect.kind) {
-        found.push(suspect)?;
+        search.found.push(suspect)?;
     }
     Ok(())
 }
@@ -69,16 +88,16 @@ fn is_again(text: &[u8], suspect: &Suspect, other: &Suspect) -> bool {
 
 /// Adds a finding, unless the same one is already there from number `first` on.
 pub(crate) fn push_once(
-    text: &[u8],
-    found: &mut Vec<Suspect>,
+    search: &mut Search<'_>,
     first: usize,
     suspect: Suspect,
 ) -> Result<(), AllocError> {
-    for i in first..found.len() {
-        if is_again(text, &suspect, &found[i]) {
+    let text = search.text;
+    for i in first..search.found.len() {
+        if is_again(text, &suspect, &search.found[i]) {
             return Ok(());
         }
     }
-    found.push(suspect)?;
+    search.found.push(suspect)?;
     Ok(())
 }

@@ -7,7 +7,7 @@ use crate::kinds::{KindSet, WarningKind};
 use crate::layout::{DefinitionPart, Layout, TextPart};
 use crate::pattern::look_at_pattern;
 use crate::skipped::look_at_skipped;
-use crate::suspects::{Subject, Suspect, push_part, push_suspect};
+use crate::suspects::{Search, Subject, Suspect, push_part, push_suspect};
 use crate::untaken::untaken_bytes;
 use crate::warnings::Known;
 use lx_diagnose::Span;
@@ -23,11 +23,8 @@ use std::alloc::{AllocError, Global};
 // Words after `%` that declare conditions. Any other word that begins like one also declares, but is suspicious.
 const CONDITION_WORDS: &[u8] = b" s S x X start ";
 
-fn look_at_declaration(
-    text: &[u8],
-    found: &mut Vec<Suspect>,
-    line: &TextPart,
-) -> Result<(), AllocError> {
+fn look_at_declaration(search: &mut Search<'_>, line: &TextPart) -> Result<(), AllocError> {
+    let text = search.text;
     let start = line.at.start.saturating_add(1);
     let word = between(start, skip_name(text, start, line.at.end()));
     if is_listed(CONDITION_WORDS, part(text, word)) {
@@ -39,11 +36,11 @@ fn look_at_declaration(
         phrase: "`%@` declares conditions, as each word with this first letter does",
         subject: Subject::Parts(word, word),
     };
-    push_suspect(found, &line.allowed, suspect)
+    push_suspect(search, &line.allowed, suspect)
 }
 
 fn look_at_conditions(
-    found: &mut Vec<Suspect>,
+    search: &mut Search<'_>,
     layout: &Layout,
     entered: &[bool],
 ) -> Result<(), AllocError> {
@@ -53,7 +50,7 @@ fn look_at_conditions(
             let condition = &layout.conditions[i];
             let phrase = "no rule enters the condition @";
             push_part(
-                found,
+                search,
                 &condition.allowed,
                 WarningKind::NeverEntered,
                 condition.at,
@@ -84,18 +81,18 @@ fn unused_phrase(alloc: Global, substitute: &[u8]) -> Result<&'static str, Alloc
 
 // Warns of a definition that isn't used.
 fn look_at_use(
-    alloc: Global,
-    text: &[u8],
-    found: &mut Vec<Suspect>,
+    search: &mut Search<'_>,
     spec: &Spec,
     definition: &DefinitionPart,
 ) -> Result<(), AllocError> {
+    let alloc = search.alloc;
+    let text = search.text;
     if is_used(spec, part(text, definition.name)) {
         return Ok(());
     }
     let phrase = unused_phrase(alloc, part(text, definition.substitute))?;
     push_part(
-        found,
+        search,
         &definition.allowed,
         WarningKind::UnusedDefinition,
         definition.name,
@@ -109,12 +106,12 @@ fn is_shared(alloc: Global, action: &[u8]) -> Result<bool, AllocError> {
 
 // Warns of a rule in a list of conditions whose pattern is flex's `<<EOF>>`.
 fn look_at_end_rule(
-    text: &[u8],
-    found: &mut Vec<Suspect>,
+    search: &mut Search<'_>,
     allowed: &KindSet,
     pattern: Span,
     behind_bar: bool,
 ) -> Result<(), AllocError> {
+    let text = search.text;
     if part(text, pattern) != b"<<EOF>>".as_slice() {
         return Ok(());
     }
@@ -123,11 +120,11 @@ fn look_at_end_rule(
     } else {
         "`@` is seven bytes of text, and no rule is for the end of a file: delete it"
     };
-    push_part(found, allowed, WarningKind::EofRule, pattern, phrase)
+    push_part(search, allowed, WarningKind::EofRule, pattern, phrase)
 }
 
 fn look_at_choice(
-    found: &mut Vec<Suspect>,
+    search: &mut Search<'_>,
     layout: &Layout,
     chosen: &[bool],
 ) -> Result<(), AllocError> {
@@ -140,24 +137,21 @@ fn look_at_choice(
                 phrase: "",
                 subject: Subject::Takers(i),
             };
-            push_suspect(found, &rule.allowed, never_chosen)?;
+            push_suspect(search, &rule.allowed, never_chosen)?;
         }
     }
     Ok(())
 }
 
-fn look_at_rules(
-    alloc: Global,
-    text: &[u8],
-    found: &mut Vec<Suspect>,
-    layout: &Layout,
-) -> Result<(), AllocError> {
+fn look_at_rules(search: &mut Search<'_>, layout: &Layout) -> Result<(), AllocError> {
+    let alloc = search.alloc;
+    let text = search.text;
     let mut behind_bar = false;
     for rule in &layout.rules {
         let allowed = &rule.allowed;
-        look_at_end_rule(text, found, allowed, rule.pattern, behind_bar)?;
-        look_at_pattern(alloc, text, found, allowed, rule.pattern)?;
-        look_at_action(alloc, text, found, allowed, rule.action)?;
+        look_at_end_rule(search, allowed, rule.pattern, behind_bar)?;
+        look_at_pattern(search, allowed, rule.pattern)?;
+        look_at_action(search, allowed, rule.action)?;
         behind_bar = is_shared(alloc, part(text, rule.action))?;
     }
     Ok(())
@@ -173,14 +167,14 @@ fn condition_part(layout: &Layout, condition: u16) -> Option<&TextPart> {
 
 // Warns of the bytes that no rule takes in a condition.
 fn look_at_untaken(
-    alloc: Global,
-    found: &mut Vec<Suspect>,
+    search: &mut Search<'_>,
     layout: &Layout,
     tables: &Tables,
     condition: u16,
 ) -> Result<(), AllocError>
     requires { condition < length tables.now.machine.starts }
 {
+    let alloc = search.alloc;
     let Some(named) = condition_part(layout, condition) else {
         return Ok(());
     };
@@ -193,18 +187,17 @@ fn look_at_untaken(
         phrase: "",
         subject: Subject::Untaken(condition),
     };
-    push_suspect(found, &named.allowed, suspect)
+    push_suspect(search, &named.allowed, suspect)
 }
 
 fn look_at_all_untaken(
-    alloc: Global,
-    found: &mut Vec<Suspect>,
+    search: &mut Search<'_>,
     layout: &Layout,
     known: &Known<'_>,
 ) -> Result<(), AllocError> {
     for condition in 0..known.tables.conditions() {
         if usize::from(condition) < known.entered.len() && known.entered[usize::from(condition)] {
-            look_at_untaken(alloc, found, layout, known.tables, condition)?;
+            look_at_untaken(search, layout, known.tables, condition)?;
         }
     }
     Ok(())
@@ -212,11 +205,11 @@ fn look_at_all_untaken(
 
 // Warns of rules for which runs of a byte are read to their end without a match.
 fn look_at_runs(
-    alloc: Global,
-    found: &mut Vec<Suspect>,
+    search: &mut Search<'_>,
     layout: &Layout,
     known: &Known<'_>,
 ) -> Result<(), AllocError> {
+    let alloc = search.alloc;
     for far in &far_ahead(alloc, known.tables, known.entered)? {
         if let Some(rule) = layout.rules.get(usize::from(far.rule)) {
             let suspect = Suspect {
@@ -225,7 +218,7 @@ fn look_at_runs(
                 phrase: "a run of the byte `@` is read to its end, and where no match ends with it, again behind each of its bytes",
                 subject: Subject::Byte(far.byte),
             };
-            push_suspect(found, &rule.allowed, suspect)?;
+            push_suspect(search, &rule.allowed, suspect)?;
         }
     }
     Ok(())
@@ -233,12 +226,11 @@ fn look_at_runs(
 
 // Examines the substitutes of definitions. If the specification is known, skips those that it doesn't use.
 fn look_at_substitutes(
-    alloc: Global,
-    text: &[u8],
-    found: &mut Vec<Suspect>,
+    search: &mut Search<'_>,
     layout: &Layout,
     spec: Option<&Spec>,
 ) -> Result<(), AllocError> {
+    let text = search.text;
     for definition in &layout.definitions {
         let is_told = match spec {
             Some(spec) => is_used(spec, part(text, definition.name)),
@@ -246,7 +238,7 @@ fn look_at_substitutes(
         };
         if is_told {
             let allowed = &definition.allowed;
-            look_at_pattern(alloc, text, found, allowed, definition.substitute)?;
+            look_at_pattern(search, allowed, definition.substitute)?;
         }
     }
     Ok(())
@@ -254,38 +246,34 @@ fn look_at_substitutes(
 
 /// Finds what is suspicious in single lines of a text. The specification is unknown if the text is rejected.
 pub(crate) fn look_at_lines(
-    alloc: Global,
-    text: &[u8],
-    found: &mut Vec<Suspect>,
+    search: &mut Search<'_>,
     layout: &Layout,
     spec: Option<&Spec>,
 ) -> Result<(), AllocError> {
     for line in &layout.declarations {
-        look_at_declaration(text, found, line)?;
+        look_at_declaration(search, line)?;
     }
-    look_at_substitutes(alloc, text, found, layout, spec)?;
-    look_at_rules(alloc, text, found, layout)?;
-    look_at_skipped(alloc, text, found, layout)
+    look_at_substitutes(search, layout, spec)?;
+    look_at_rules(search, layout)?;
+    look_at_skipped(search, layout)
 }
 
 /// Finds what is suspicious in the parts of a text. Examines runs of a byte only if asked, since this takes long.
 pub(crate) fn look_at_text(
-    alloc: Global,
-    text: &[u8],
-    found: &mut Vec<Suspect>,
+    search: &mut Search<'_>,
     asked: &KindSet,
     layout: &Layout,
     known: &Known<'_>,
 ) -> Result<(), AllocError> {
-    look_at_conditions(found, layout, known.entered)?;
+    look_at_conditions(search, layout, known.entered)?;
     for definition in &layout.definitions {
-        look_at_use(alloc, text, found, known.spec, definition)?;
+        look_at_use(search, known.spec, definition)?;
     }
-    look_at_choice(found, layout, known.chosen)?;
-    look_at_lines(alloc, text, found, layout, Some(known.spec))?;
-    look_at_all_untaken(alloc, found, layout, known)?;
+    look_at_choice(search, layout, known.chosen)?;
+    look_at_lines(search, layout, Some(known.spec))?;
+    look_at_all_untaken(search, layout, known)?;
     if asked.contains(WarningKind::FarAhead) {
-        look_at_runs(alloc, found, layout, known)?;
+        look_at_runs(search, layout, known)?;
     }
     Ok(())
 }
