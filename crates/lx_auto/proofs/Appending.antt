@@ -21,7 +21,7 @@ use Rattle.lx_auto.specs.NameViews.{place_of, tree_at}
 use Rattle.lx_auto.specs.NodeViews.{Appends, Joins, Changes}
 use Rattle.lx_auto.specs.Copies.{is_no_copy}
 use Rattle.lx_auto.specs.Unfolding.{Unfolds, UnfoldsName}
-use Rattle.lx_auto.specs.declared.part.Part.{Part}
+use Rattle.lx_auto.specs.declared.unfolding.part.Part.{Part}
 use Rattle.lx_auto.proofs.Naming.{place-tree}
 
 pub and-left : (a b : Bool) → IsTrue (a && b) → IsTrue a

@@ -6,7 +6,7 @@ use Rattle.lx_automaton.proofs.Members.{contains_nil, contains_cases}
 use Rattle.lx_auto.specs.Marking.{flag}
 use Rattle.lx_auto.specs.SetSteps.{IsRising}
 use Rattle.lx_auto.specs.BarePositions.{IsBareIn}
-use Rattle.lx_auto.specs.declared.bare.Bare.{Bare}
+use Rattle.lx_auto.specs.declared.sets.bare.Bare.{Bare}
 use Rattle.lx_auto.proofs.FlagLemmas.{flag_set_same, flag_set_other, length_set}
 
 default_any : (S : List ℕ) (k d : ℕ) → k < length S → slice_index S k ≡ get_or S k d

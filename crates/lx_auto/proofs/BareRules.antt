@@ -8,7 +8,7 @@ use Rattle.lx_auto.specs.Marking.{flag}
 use Rattle.lx_auto.specs.PositionSets.{NumberedRule}
 use Rattle.lx_auto.specs.RuleParts.{ArePartsOf, EndBefore}
 use Rattle.lx_auto.specs.Following.{AreNumbered, FollowsMarked, AreReadBelow, IsFirstMatchedBelow}
-use Rattle.lx_auto.specs.declared.rule_part.RulePart.{RulePart}
+use Rattle.lx_auto.specs.declared.rules.rule_part.RulePart.{RulePart}
 use Rattle.lx_auto.proofs.Followed.{untouched_reads, untouched_ends}
 use Rattle.lx_auto.proofs.StepAll.{some_at}
 

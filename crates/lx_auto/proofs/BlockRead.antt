@@ -12,8 +12,8 @@ use Rattle.lx_auto.specs.Passing.{HasNoEmptyPart, node_count, ended, end_list, E
 use Rattle.lx_auto.specs.Outlines.{positions_of, HaveEnded, read_blocks}
 use Rattle.lx_auto.specs.Blocks.{IsBlockOver, AreBlocksOver, leaf_total, IsBlock, AreBlocks, HasEnds, HaveEnds, last_flag, IsClear, shifted}
 use Rattle.lx_auto.specs.Chunks.{block_nodes}
-use Rattle.lx_auto.specs.declared.block.Block.{Block}
-use Rattle.lx_auto.specs.declared.node.Node.{Node}
+use Rattle.lx_auto.specs.declared.rules.block.Block.{Block}
+use Rattle.lx_auto.specs.declared.unfolding.node.Node.{Node}
 use Rattle.lx_auto.proofs.FlagLemmas.{flag_right, length_joined}
 use Rattle.lx_auto.proofs.LeafOrder.{tree_long}
 use Rattle.lx_auto.proofs.PassResults.{some_nodes, end_length, ends_at, reads_pass}

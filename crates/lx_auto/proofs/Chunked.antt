@@ -10,14 +10,14 @@ use Rattle.lx_auto.specs.Marking.{flag, nulls_from}
 use Rattle.lx_auto.specs.Outlines.{AreEquivalentExpressions, one_block, chunked_cat, chunked_alt, chunked_opt, chunked_plus, outline_of_block, blocks_of, tree_of}
 use Rattle.lx_auto.specs.Passing.{HasNoEmptyPart, IsSimplified, null_list}
 use Rattle.lx_auto.specs.Chunks.{binary_node, binary_expression, unary_node, unary_expression, tree_step, trees_from, block_nodes, IsSingleBlockOf, IsOutlinedOf, IsGrowingChunkOf, IsChunkOf, IsPopped}
-use Rattle.lx_auto.specs.declared.chunk.GrowingChunk.{GrowingChunk}
-use Rattle.lx_auto.specs.declared.chunk.Outlined.{Outlined}
-use Rattle.lx_auto.specs.declared.chunk.BinaryOperator.{BinaryOperator}
-use Rattle.lx_auto.specs.declared.chunk.BinaryOperator.TheVariants.{Concatenation, Alternation}
-use Rattle.lx_auto.specs.declared.chunk.Chunk.{Chunk}
-use Rattle.lx_auto.specs.declared.chunk.UnaryOperator.{UnaryOperator}
-use Rattle.lx_auto.specs.declared.chunk.UnaryOperator.TheVariants.{Optional, OneOrMore}
-use Rattle.lx_auto.specs.declared.chunk.SingleBlock.{SingleBlock}
+use Rattle.lx_auto.specs.declared.rules.chunk.GrowingChunk.{GrowingChunk}
+use Rattle.lx_auto.specs.declared.rules.chunk.Outlined.{Outlined}
+use Rattle.lx_auto.specs.declared.rules.chunk.BinaryOperator.{BinaryOperator}
+use Rattle.lx_auto.specs.declared.rules.chunk.BinaryOperator.TheVariants.{Concatenation, Alternation}
+use Rattle.lx_auto.specs.declared.rules.chunk.Chunk.{Chunk}
+use Rattle.lx_auto.specs.declared.rules.chunk.UnaryOperator.{UnaryOperator}
+use Rattle.lx_auto.specs.declared.rules.chunk.UnaryOperator.TheVariants.{Optional, OneOrMore}
+use Rattle.lx_auto.specs.declared.rules.chunk.SingleBlock.{SingleBlock}
 use Rattle.lx_auto.proofs.EquivalentExpressions.{equivalent_refl, equivalent_trans, equivalent_unary, equivalent_binary, equivalent_assoc}
 use Rattle.lx_auto.proofs.PassResults.{null_length, null_last}
 use Rattle.lx_auto.proofs.RuleRead.{no_empty_nulls}

@@ -6,7 +6,7 @@ use Rattle.lx_auto.specs.Nodes.{PlainNode, cat_node, alt_node, opt_node, plus_no
 use Rattle.lx_auto.specs.Simplified.{cat_of, alt_of}
 use Rattle.lx_auto.specs.Parts.{part_of}
 use Rattle.lx_auto.specs.NodeViews.{Appends, Joins}
-use Rattle.lx_auto.specs.declared.part.Part.{Part}
+use Rattle.lx_auto.specs.declared.unfolding.part.Part.{Part}
 use Rattle.lx_auto.proofs.Sizes.{is_full, one, two}
 
 -- each expression but the empty word has a node

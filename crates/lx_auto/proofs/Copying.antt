@@ -9,8 +9,8 @@ use Rattle.lx_auto.specs.Simplified.{opt_of, plus_of, cat_of, simplified_counted
 use Rattle.lx_auto.specs.Parts.{part_of}
 use Rattle.lx_auto.specs.NodeViews.{node_view, nodes_view, Appends, Joins, Changes}
 use Rattle.lx_auto.specs.Copies.{copies, joined_as}
-use Rattle.lx_auto.specs.declared.node.Node.{Node}
-use Rattle.lx_auto.specs.declared.part.Part.{Part}
+use Rattle.lx_auto.specs.declared.unfolding.node.Node.{Node}
+use Rattle.lx_auto.specs.declared.unfolding.part.Part.{Part}
 
 pub copies-last : {X : Type 0} (n : ℕ) (xs : List X) → copies (suc n) xs ≡ copies n xs ++ xs
 copies-last zero xs = append-nil xs

@@ -5,10 +5,10 @@ use Rattle.lx_auto.specs.Unfolded.{Unfolded, position_count, nullable}
 use Rattle.lx_auto.specs.Outlines.{AreEquivalentExpressions}
 use Rattle.lx_auto.specs.Passing.{ended, read_list}
 use Rattle.lx_auto.specs.Chunks.{binary_expression, unary_expression}
-use Rattle.lx_auto.specs.declared.chunk.BinaryOperator.{BinaryOperator}
-use Rattle.lx_auto.specs.declared.chunk.BinaryOperator.TheVariants.{Concatenation, Alternation}
-use Rattle.lx_auto.specs.declared.chunk.UnaryOperator.{UnaryOperator}
-use Rattle.lx_auto.specs.declared.chunk.UnaryOperator.TheVariants.{Optional, OneOrMore}
+use Rattle.lx_auto.specs.declared.rules.chunk.BinaryOperator.{BinaryOperator}
+use Rattle.lx_auto.specs.declared.rules.chunk.BinaryOperator.TheVariants.{Concatenation, Alternation}
+use Rattle.lx_auto.specs.declared.rules.chunk.UnaryOperator.{UnaryOperator}
+use Rattle.lx_auto.specs.declared.rules.chunk.UnaryOperator.TheVariants.{Optional, OneOrMore}
 
 pub equivalent_refl : (e : Unfolded) → AreEquivalentExpressions e e
 equivalent_refl e = record { count = refl; null = refl; ends = λ marks p. refl; reads = λ marks f p old. refl; no_empty = λ s. s }

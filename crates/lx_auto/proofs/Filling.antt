@@ -6,7 +6,7 @@ use Rattle.lx_rules.specs.views.Rules.{definition_view}
 use Rattle.lx_rules.specs.declared.definition.Definition.{Definition}
 use Rattle.lx_auto.specs.NodeViews.{nodes_view}
 use Rattle.lx_auto.specs.Unfolding.{Unfolds, AreFragments}
-use Rattle.lx_auto.specs.declared.fragment.Fragment.{Fragment}
+use Rattle.lx_auto.specs.declared.unfolding.fragment.Fragment.{Fragment}
 
 -- no fragment is filled
 pub record AreNone (fragments : List (Option Fragment)) : Type 0 where

@@ -16,7 +16,7 @@ use Rattle.lx_auto.specs.SetSteps.{HasSomeByte}
 use Rattle.lx_auto.specs.Leaves.{PlainLeaf, one_of_set, newline, leaf_has_at, has_byte, AreLeavesOf}
 use Rattle.lx_auto.specs.LeafViews.{leaf_of_end, leaves_of_part, leaves_of_parts}
 use Rattle.lx_auto.specs.NodeLeaves.{leaf_in, leaves_in}
-use Rattle.lx_auto.specs.declared.rule_part.RulePart.{RulePart}
+use Rattle.lx_auto.specs.declared.rules.rule_part.RulePart.{RulePart}
 
 -- the bytes of the positions from k on are those of the leaves, and none is below k
 pub record Stand (Has : ℕ → ℕ → Type 0) (k : ℕ) (leaves : List PlainLeaf) : Type 0 where

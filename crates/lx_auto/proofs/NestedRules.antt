@@ -10,7 +10,7 @@ use Rattle.lx_auto.specs.Nodes.{PlainNode}
 use Rattle.lx_auto.specs.NodeViews.{Appends}
 use Rattle.lx_auto.specs.Simplified.{simplified_pattern}
 use Rattle.lx_auto.specs.Unfolding.{Unfolds}
-use Rattle.lx_auto.specs.declared.part.Part.{Part}
+use Rattle.lx_auto.specs.declared.unfolding.part.Part.{Part}
 use Rattle.lx_auto.proofs.Appending.{and-left, and-right}
 
 -- the nodes of a pattern whose names are nested

@@ -10,7 +10,7 @@ use Rattle.lx_auto.specs.PositionSets.{NumberedRule, size_of}
 use Rattle.lx_auto.specs.Blocks.{IsClear}
 use Rattle.lx_auto.specs.RuleParts.{IsPartOf, ArePartsOf}
 use Rattle.lx_auto.specs.Following.{AreNumbered, FollowsMarked, AreReadBelow, ReadsOrStays}
-use Rattle.lx_auto.specs.declared.rule_part.RulePart.{RulePart}
+use Rattle.lx_auto.specs.declared.rules.rule_part.RulePart.{RulePart}
 use Rattle.lx_auto.proofs.StepAll.{some_at, follows_in, part_size, clear_part}
 
 flag_take : (n : ℕ) (flags : List Bool) (k : ℕ) → k < n → flag (take n flags) k ≡ flag flags k

@@ -15,9 +15,9 @@ use Rattle.lx_auto.specs.PositionSets.{NumberedRule}
 use Rattle.lx_auto.specs.Chunks.{block_nodes, IsSplitOf}
 use Rattle.lx_auto.specs.Blocks.{AreBlocks, AreBlocksOver, HaveEnds, last_flag, leaf_total, IsClear}
 use Rattle.lx_auto.specs.RuleParts.{IsPartOf, IsPartOver, IsDivided, IsDividedBy, AreReadsOf}
-use Rattle.lx_auto.specs.declared.block.Block.{Block}
-use Rattle.lx_auto.specs.declared.chunk.Outlined.{Outlined}
-use Rattle.lx_auto.specs.declared.rule_part.RulePart.{RulePart}
+use Rattle.lx_auto.specs.declared.rules.block.Block.{Block}
+use Rattle.lx_auto.specs.declared.rules.chunk.Outlined.{Outlined}
+use Rattle.lx_auto.specs.declared.rules.rule_part.RulePart.{RulePart}
 use Rattle.lx_auto.proofs.BlockRead.{have_ended, blocks_long, HaveNoEmptyPart, tree_total, over_trees}
 use Rattle.lx_auto.proofs.Outlined.{outline_no_empty, outline_count, outline_ended, outline_reads, blocks_count}
 use Rattle.lx_auto.proofs.Readable.{ended_means, reads_length, reads_apart, reads_mean}

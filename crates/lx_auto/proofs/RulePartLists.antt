@@ -12,7 +12,7 @@ use Rattle.lx_auto.specs.Nodes.{PlainNode, nodes_of}
 use Rattle.lx_auto.specs.NodeLeaves.{leaves_in}
 use Rattle.lx_auto.specs.PositionSets.{NumberedRule, size_of, numbered}
 use Rattle.lx_auto.specs.RuleParts.{IsPartOf, ArePartsOf, IsPartOver}
-use Rattle.lx_auto.specs.declared.rule_part.RulePart.{RulePart}
+use Rattle.lx_auto.specs.declared.rules.rule_part.RulePart.{RulePart}
 use Rattle.lx_auto.proofs.FlagLemmas.{length_joined}
 use Rattle.lx_auto.proofs.LeafOrder.{tree_long}
 use Rattle.lx_auto.proofs.PositionCounts.{simplified_pattern-count}

@@ -10,7 +10,7 @@ use Rattle.lx_auto.specs.RuleParts.{ArePartsOf}
 use Rattle.lx_auto.specs.SetSteps.{IsMatchedBy}
 use Rattle.lx_auto.specs.Sets.{AreFollowing, AreFirst, IsEarliestMatched}
 use Rattle.lx_auto.specs.Following.{FollowsMarked, BeginsWith, AreReadBelow, IsMatchedAt, IsFirstMatchedBelow}
-use Rattle.lx_auto.specs.declared.rule_part.RulePart.{RulePart}
+use Rattle.lx_auto.specs.declared.rules.rule_part.RulePart.{RulePart}
 use Rattle.lx_auto.proofs.Membership.{member_means, place_means, places_rise}
 use Rattle.lx_auto.proofs.Ranges.{follow_in, final_in}
 

@@ -9,7 +9,7 @@ use Rattle.lx_auto.specs.PositionSets.{NumberedRule, size_of}
 use Rattle.lx_auto.specs.RuleParts.{IsPartOf, ArePartsOf, AreReadsOf}
 use Rattle.lx_rules.specs.Starts.{AreActive}
 use Rattle.lx_auto.specs.Following.{InRange, AreNumbered, FollowsMarked, EndsMarked, BeginsWith, AreReadBelow, ReadsOrStays, IsFirstMatchedBelow, first_or}
-use Rattle.lx_auto.specs.declared.rule_part.RulePart.{RulePart}
+use Rattle.lx_auto.specs.declared.rules.rule_part.RulePart.{RulePart}
 use Rattle.lx_auto.proofs.Followed.{begin_rule, read_more, read_none, step_more, matched_more, unmatched_more}
 use Rattle.lx_auto.proofs.Ranges.{follow_in, first_in}
 

@@ -1,6 +1,6 @@
 -- Positions between two members of a set.
 use Rattle.std.specs.Prelude.{ℕ, ◌<◌, ◌≤◌, List, length, slice_index}
-use Rattle.lx_auto.specs.declared.bare.Bare.{Bare}
+use Rattle.lx_auto.specs.declared.sets.bare.Bare.{Bare}
 
 -- `passed` members of the set are before the first of these positions, and the next member isn't before their end
 pub record IsBareIn (S : List ℕ) (bare : Bare) : Type 0 where

@@ -8,7 +8,7 @@ use Rattle.lx_auto.specs.NodeLeaves.{leaves_in}
 use Rattle.lx_auto.specs.NodeViews.{nodes_view}
 use Rattle.lx_auto.specs.Marking.{flag, nulls_from}
 use Rattle.lx_auto.specs.Passing.{HasNoEmptyPart, EndsAt, ended}
-use Rattle.lx_auto.specs.declared.block.Block.{Block}
+use Rattle.lx_auto.specs.declared.rules.block.Block.{Block}
 
 -- true if a node is a position, or joins two expressions one after the other
 abbrev pub is_sequence_node : PlainNode → Bool

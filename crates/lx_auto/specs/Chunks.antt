@@ -7,16 +7,16 @@ use Rattle.lx_auto.specs.Nodes.{PlainNode, leaf_node, cat_node, alt_node, opt_no
 use Rattle.lx_auto.specs.NodeViews.{nodes_view}
 use Rattle.lx_auto.specs.Outlines as outlines
 use Rattle.lx_auto.specs.Passing.{HasNoEmptyPart}
-use Rattle.lx_auto.specs.declared.node.Node.{Node}
-use Rattle.lx_auto.specs.declared.chunk.GrowingChunk.{GrowingChunk}
-use Rattle.lx_auto.specs.declared.chunk.Outlined.{Outlined}
-use Rattle.lx_auto.specs.declared.chunk.BinaryOperator.{BinaryOperator}
-use Rattle.lx_auto.specs.declared.chunk.BinaryOperator.TheVariants.{Concatenation, Alternation}
-use Rattle.lx_auto.specs.declared.chunk.Chunk.{Chunk}
-use Rattle.lx_auto.specs.declared.chunk.Chunk.TheVariants.{Small, Large, Growing}
-use Rattle.lx_auto.specs.declared.chunk.UnaryOperator.{UnaryOperator}
-use Rattle.lx_auto.specs.declared.chunk.UnaryOperator.TheVariants.{Optional, OneOrMore}
-use Rattle.lx_auto.specs.declared.chunk.SingleBlock.{SingleBlock}
+use Rattle.lx_auto.specs.declared.unfolding.node.Node.{Node}
+use Rattle.lx_auto.specs.declared.rules.chunk.GrowingChunk.{GrowingChunk}
+use Rattle.lx_auto.specs.declared.rules.chunk.Outlined.{Outlined}
+use Rattle.lx_auto.specs.declared.rules.chunk.BinaryOperator.{BinaryOperator}
+use Rattle.lx_auto.specs.declared.rules.chunk.BinaryOperator.TheVariants.{Concatenation, Alternation}
+use Rattle.lx_auto.specs.declared.rules.chunk.Chunk.{Chunk}
+use Rattle.lx_auto.specs.declared.rules.chunk.Chunk.TheVariants.{Small, Large, Growing}
+use Rattle.lx_auto.specs.declared.rules.chunk.UnaryOperator.{UnaryOperator}
+use Rattle.lx_auto.specs.declared.rules.chunk.UnaryOperator.TheVariants.{Optional, OneOrMore}
+use Rattle.lx_auto.specs.declared.rules.chunk.SingleBlock.{SingleBlock}
 
 -- the operator of a node above two expressions: its node, a flag for the empty word, its expression
 abbrev pub binary_node : BinaryOperator → ℕ → PlainNode

@@ -3,9 +3,9 @@ use Rattle.std.specs.Prelude.{Bool, true, false, List, [], ◌∷◌, ◌++◌, 
 use Rattle.lx_auto.specs.NodeLeaves.{leaves_in}
 use Rattle.lx_auto.specs.NodeViews.{nodes_view}
 use Rattle.lx_auto.specs.Leaves.{PlainLeaf, one_of_set, newline}
-use Rattle.lx_auto.specs.declared.leaf.Leaf.{Leaf}
-use Rattle.lx_auto.specs.declared.leaf.Leaf.TheVariants.{Set, Newline}
-use Rattle.lx_auto.specs.declared.rule_part.RulePart.{RulePart}
+use Rattle.lx_auto.specs.declared.sets.leaf.Leaf.{Leaf}
+use Rattle.lx_auto.specs.declared.sets.leaf.Leaf.TheVariants.{Set, Newline}
+use Rattle.lx_auto.specs.declared.rules.rule_part.RulePart.{RulePart}
 
 abbrev pub leaf_view : Leaf → PlainLeaf
 leaf_view (Set s) = one_of_set s.now

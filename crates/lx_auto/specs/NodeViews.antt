@@ -3,9 +3,9 @@ use Rattle.std.specs.Prelude.{◌≡◌, List, ◌++◌, map}
 use Rattle.lx_auto.specs.Unfolded.{Unfolded}
 use Rattle.lx_auto.specs.Nodes.{PlainNode, leaf_node, cat_node, alt_node, opt_node, plus_node, nodes_of}
 use Rattle.lx_auto.specs.Parts.{part_of}
-use Rattle.lx_auto.specs.declared.node.Node.{Node}
-use Rattle.lx_auto.specs.declared.node.Node.TheVariants.{Leaf, Cat, Alt, Optional, Repeated}
-use Rattle.lx_auto.specs.declared.part.Part.{Part}
+use Rattle.lx_auto.specs.declared.unfolding.node.Node.{Node}
+use Rattle.lx_auto.specs.declared.unfolding.node.Node.TheVariants.{Leaf, Cat, Alt, Optional, Repeated}
+use Rattle.lx_auto.specs.declared.unfolding.part.Part.{Part}
 
 abbrev pub node_view : Node → PlainNode
 node_view (Leaf s) = leaf_node s.now

@@ -2,7 +2,7 @@
 use Rattle.std.specs.Prelude.{Bool, true, false, length}
 use Rattle.lx_auto.specs.Unfolded.{Unfolded, empty, leaf, cat, alt, opt, plus, nullable}
 use Rattle.lx_auto.specs.Nodes.{nodes_of}
-use Rattle.lx_auto.specs.declared.part.Part.{Part}
+use Rattle.lx_auto.specs.declared.unfolding.part.Part.{Part}
 
 -- a repetition of it equals it
 abbrev pub is_repeated : Unfolded → Bool

@@ -11,7 +11,7 @@ use Rattle.lx_auto.specs.SetTable.{Positions, set_of}
 use Rattle.lx_auto.specs.Sets.{IsEarliestMatched}
 use Rattle.lx_auto.specs.Exploring.{IsExplored, start_count}
 use Rattle.lx_auto.specs.declared.explored.Explored.{Explored}
-use Rattle.lx_auto.specs.declared.position_table.PositionTable.{PositionTable}
+use Rattle.lx_auto.specs.declared.sets.position_table.PositionTable.{PositionTable}
 
 -- the parts, the leaves and the groups are those of the rules, whose expressions are those of tree_of
 pub record ArePositionsOf (spec : PlainSpec) (tree_of : Regex → Unfolded) (positions : PositionTable) : Type 0 where

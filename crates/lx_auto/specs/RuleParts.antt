@@ -10,7 +10,7 @@ use Rattle.lx_auto.specs.Positions.{CanRead}
 use Rattle.lx_auto.specs.Blocks.{AreBlocks}
 use Rattle.lx_auto.specs.Outlines as outlines
 use Rattle.lx_auto.specs.PositionSets.{NumberedRule, size_of}
-use Rattle.lx_auto.specs.declared.rule_part.RulePart.{RulePart}
+use Rattle.lx_auto.specs.declared.rules.rule_part.RulePart.{RulePart}
 
 -- the outline and the blocks are those of a way to split an expression into blocks that is equivalent to this one
 pub record IsDividedBy (part : RulePart) (e : Unfolded) (k : ℕ) : Type 0 where

@@ -9,8 +9,8 @@ use Rattle.lx_rules.specs.Limits.{max_name_depth}
 use Rattle.lx_auto.specs.Nodes.{PlainNode}
 use Rattle.lx_auto.specs.Simplified.{simplified, simplified_if_defined, simplified_name}
 use Rattle.lx_auto.specs.NodeViews.{nodes_view, Appends}
-use Rattle.lx_auto.specs.declared.fragment.Fragment.{Fragment}
-use Rattle.lx_auto.specs.declared.part.Part.{Part}
+use Rattle.lx_auto.specs.declared.unfolding.fragment.Fragment.{Fragment}
+use Rattle.lx_auto.specs.declared.unfolding.part.Part.{Part}
 
 -- the nodes of the expression are appended, at each depth at which its names are defined
 pub record Unfolds (definitions : List PlainDefinition) (depth : ℕ) (tree : Regex) (old new : List PlainNode) (p : Part) : Type 0 where

@@ -14,7 +14,7 @@ ghost use Rattle.lx_auto.specs.TooLarge.{HasTooManyPositions, HasTooManySets};
 use crate::drafting::draft_of;
 use crate::explore::explore;
 use crate::fault::BuildFault;
-use crate::spec_positions::positions_of;
+use crate::sets::spec_positions::positions_of;
 use lx_automaton::{Automaton, AutomatonDraft, with_byte_classes};
 use lx_minimize::merge;
 use lx_rules::limits::MAX_POSITION_SETS;

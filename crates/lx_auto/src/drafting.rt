@@ -8,7 +8,7 @@ ghost use Rattle.lx_auto.specs.Drafting.{AreAllBelow, AreStartStates, IsDrafted}
 ghost use Rattle.lx_automaton.specs.EncodedOptions.{decoded_option};
 
 use crate::explored::Explored;
-use crate::groups::ByteGroups;
+use crate::sets::groups::ByteGroups;
 use lx_automaton::AutomatonDraft;
 use std::alloc::{AllocError, Global};
 

@@ -17,13 +17,13 @@ ghost use Rattle.lx_auto.specs.Exploring.{AddsTarget, AreReachedSets, HasMoreSet
 
 use crate::explored::Explored;
 use crate::fault::BuildFault;
-use crate::follow::{begin, follow};
-use crate::leaf::{Leaf, has};
-use crate::position_table::PositionTable;
-use crate::rule_numbers::rules_by_position;
-use crate::set_numbering::{empty_table, number_of};
-use crate::set_steps::clear_flags;
-use crate::set_table::{PositionSet, SetTable};
+use crate::rules::rule_numbers::rules_by_position;
+use crate::sets::follow::{begin, follow};
+use crate::sets::leaf::{Leaf, has};
+use crate::sets::position_table::PositionTable;
+use crate::sets::set_numbering::{empty_table, number_of};
+use crate::sets::set_steps::clear_flags;
+use crate::sets::set_table::{PositionSet, SetTable};
 use lx_rules::active::active_rules;
 use lx_rules::spec::Spec;
 use smallvec::SmallVec;

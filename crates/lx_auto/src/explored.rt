@@ -1,6 +1,6 @@
 //! Results of the exploration.
 
-use crate::set_table::SetTable;
+use crate::sets::set_table::SetTable;
 
 /// The position sets that were reached, the steps of all states, and the rule that each set matches.
 #[derive(Drop)]

@@ -1,5 +1,0 @@
-use Rattle.lx_auto.proofs.Filling.{AreNone}
-use Rattle.lx_auto.proofs.fill.no_fragments.Given as goal
-
-abbrev pub invariant-loop-definition : goal.invariant-loop-definition
-invariant-loop-definition l = AreNone l.fragments.items

@@ -1,0 +1,12 @@
+use Rattle.std.proofs.Common.{◌≡◌, ◌++◌, ◌-◌, List}
+use Rattle.lx_auto.specs.Unfolded.{Unfolded}
+use Rattle.lx_auto.specs.Nodes.{PlainNode, nodes_of}
+use Rattle.lx_auto.specs.NodeViews.{nodes_view}
+use Rattle.lx_auto.specs.Parts.{part_of}
+use Rattle.lx_auto.specs.Simplified.{simplified_unbounded}
+use Rattle.lx_auto.proofs.Copying.{AreClosing}
+use Rattle.lx_auto.proofs.unfolding.repeat.repeat_unbounded.Given as goal
+
+abbrev pub invariant-loop-closed : goal.invariant-loop-closed
+invariant-loop-closed l = (base : List PlainNode) (r : Unfolded) → nodes_view l.fn.nodes.items ≡ base ++ nodes_of r → l.body ≡ part_of r
+    → AreClosing (simplified_unbounded r) base r (l.low - 1 - l._closed) l._closed (nodes_view l.nodes.items) l.behind
