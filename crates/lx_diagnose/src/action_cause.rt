@@ -6,7 +6,7 @@ use crate::causes::ActionCause;
 use crate::found::{Found, found_at, found_byte, found_named};
 use crate::places::{Span, between, one_byte};
 use crate::scan::{begins_at, find, is_at, is_blank_at, is_digit_at, is_listed, next_blank, part};
-use crate::sectioning::{RuleExtent, RulePrefix};
+use crate::sectioning::{PrefixExtent, RuleExtent};
 use crate::words::{PlacedWords, end_of_previous, failing_word, place_at, words_of};
 use lx_spec::action::{Action, Statement, Turn, read_action, turn_at};
 use lx_spec::word::Word;
@@ -111,7 +111,7 @@ fn border_cause(
     text: &[u8],
     rule: RuleExtent,
 ) -> Result<Option<(ActionCause, Found)>, AllocError> {
-    if let RulePrefix::Absent = rule.prefix {
+    if let PrefixExtent::Absent = rule.prefix {
         if is_at(text, rule.pattern.start, b'#') {
             return Ok(Some((ActionCause::CommentHash, found_byte(rule.pattern.start))));
         }

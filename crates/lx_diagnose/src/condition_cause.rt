@@ -6,7 +6,7 @@ use crate::name_cause::condition_named;
 use crate::outline::{ConditionLine, Outline};
 use crate::places::{Span, between};
 use crate::scan::{is_at, part};
-use crate::sectioning::{RuleExtent, RulePrefix};
+use crate::sectioning::{PrefixExtent, RuleExtent};
 use crate::similar::Closest;
 use crate::words::{PlacedWords, words_of};
 use lx_spec::word::Word;
@@ -114,7 +114,7 @@ pub(crate) fn condition_cause(
     text: &[u8],
     rule: RuleExtent,
 ) -> Result<(ConditionCause, Found), AllocError> {
-    if let RulePrefix::Listed(names) = rule.prefix {
+    if let PrefixExtent::Listed(names) = rule.prefix {
         if let Some(name) = undeclared_in_list(outline, text, names) {
             let by_place = if outline.conditions.is_empty() {
                 ConditionCause::Tag

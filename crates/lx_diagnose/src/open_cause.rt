@@ -7,7 +7,7 @@ use crate::outline::Outline;
 use crate::places::{Span, between, one_byte};
 use crate::scan::{begins_at, is_at, skip_blanks};
 use crate::sectioning::RuleExtent;
-use lx_spec::block::{Mode, counts, next_mode, skip_line};
+use lx_spec::block::{Mode, counts, mode_after_line, next_mode};
 use std::alloc::{AllocError, Global};
 
 // The state of an action that was read up to a position.
@@ -40,7 +40,7 @@ fn take_brace(reading: &mut ActionReading, byte: u8, at: usize) -> Result<(), Al
 
 fn take_byte(reading: &mut ActionReading, byte: u8, at: usize) -> Result<(), AllocError> {
     if byte == b'\n' {
-        reading.mode = skip_line(reading.mode);
+        reading.mode = mode_after_line(reading.mode);
         return Ok(());
     }
     take_brace(reading, byte, at)?;

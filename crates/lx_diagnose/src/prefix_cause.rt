@@ -7,7 +7,7 @@ use crate::scan::{
     begins_at, is_at, is_digit_at, is_word_at, next_blank, part, skip_blanks, skip_name,
     trim_blanks_end,
 };
-use crate::sectioning::{RuleExtent, RulePrefix};
+use crate::sectioning::{PrefixExtent, RuleExtent};
 use lx_spec::action::read_action;
 use std::alloc::{AllocError, Global};
 
@@ -128,9 +128,9 @@ pub(crate) fn prefix_cause(
         return Ok(Some((PatternCause::EndOfFile, found_at(word))));
     }
     match rule.prefix {
-        RulePrefix::Absent => comment_cause(alloc, text, rule),
-        RulePrefix::Unclosed => Ok(Some(unclosed_cause(text, rule.line))),
-        RulePrefix::Listed(names) => match listed_cause(text, rule.line, names) {
+        PrefixExtent::Absent => comment_cause(alloc, text, rule),
+        PrefixExtent::Unclosed => Ok(Some(unclosed_cause(text, rule.line))),
+        PrefixExtent::Listed(names) => match listed_cause(text, rule.line, names) {
             Some(cause) => Ok(Some(cause)),
             None => {
                 let behind = Span {

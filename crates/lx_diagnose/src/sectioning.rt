@@ -27,7 +27,7 @@ pub enum Section {
 
 /// The text before a pattern: nothing, a `<` that isn't closed, or the text between `<` and `>`.
 #[derive(Clone, Copy)]
-pub enum RulePrefix {
+pub enum PrefixExtent {
     Absent,
     Unclosed,
     Listed(Span),
@@ -37,7 +37,7 @@ pub enum RulePrefix {
 #[derive(Clone, Copy)]
 pub struct RuleExtent {
     pub line: Span,
-    pub prefix: RulePrefix,
+    pub prefix: PrefixExtent,
     pub pattern: Span,
     pub action: Span,
 }
@@ -119,16 +119,16 @@ fn kind_in_definitions(text: &[u8], line: Span) -> (LineKind, Section) {
 }
 
 // Returns the prefix, and the position where the pattern begins.
-fn prefix_and_pattern(line: Span, prefix: &RulePrefix) -> (RulePrefix, usize) {
+fn prefix_and_pattern(line: Span, prefix: &RulePrefix) -> (PrefixExtent, usize) {
     match prefix {
-        RulePrefix::Absent => (RulePrefix::Absent, line.start),
-        RulePrefix::Unclosed => (RulePrefix::Unclosed, line.end()),
+        RulePrefix::Absent => (PrefixExtent::Absent, line.start),
+        RulePrefix::Unclosed => (PrefixExtent::Unclosed, line.end()),
         RulePrefix::Listed(names) => {
             let names = Span {
                 start: line.start.saturating_add(1),
                 len: names.len(),
             };
-            (RulePrefix::Listed(names), names.end().saturating_add(1))
+            (PrefixExtent::Listed(names), names.end().saturating_add(1))
         }
     }
 }

@@ -1,9 +1,12 @@
-use Rattle.std.proofs.Common.{◌≡◌, ◌<◌, sym, ◌∙◌, subst, ap, [], refl, Err, arith}
+use Rattle.std.proofs.Common.{◌≡◌, ◌<◌, ℕ, sym, ◌∙◌, subst, ap, [], refl, Err, arith}
 use Rattle.std.specs.Prelude.{Result, slice_get}
 use Rattle.std.proofs.lemmas.List.Elements.{All-nil}
 use Rattle.std.proofs.lemmas.Result.{err_from_is_err_and}
 use Rattle.lx_piece.specs.Plans.{Planned}
 use Rattle.lx_piece.specs.Arrivals.{IsHonestBy}
+use Rattle.lx_piece.specs.Relayed.{TellsRelayFaults}
+use Rattle.lx_piece.specs.declared.delivering.RelayFault.{RelayFault}
+use Rattle.lx_piece.specs.declared.delivering.RelayFault.TheVariants as fault
 use Rattle.lx_piece.specs.Kept.{is_ready_at}
 use Rattle.lx_piece.specs.Delivered.{HoldsPlanned}
 use Rattle.lx_piece.proofs.SoFar.{SoFar}
@@ -96,14 +99,33 @@ returns-in_err-deliver_all-clause-follows g c = g.met.R.ReaderOf.follows_on _ _ 
 same_fault : {X E : Type 0} (answer : Result X E) (fault other : E) → answer ≡ Err fault → answer ≡ Err other → fault ≡ other
 same_fault answer fault other is also = cc
 
-pub returns-in_err-deliver_all-clause-reader_fault : goal.returns-in_err-deliver_all-clause-reader_fault
-returns-in_err-deliver_all-clause-reader_fault g c = λ e.
+pub returns-in_err-deliver_all-clause-faults : goal.returns-in_err-deliver_all-clause-faults
+returns-in_err-deliver_all-clause-faults g c =
     let p = err_from_is_err_and c.from_residual-in_err-deliver_all.result c.from_residual-in_err-deliver_all.ensures.1 in
     let same = c.loop-piece.invariant.faults in
-    let more = c.in_err-deliver_all.ensures.reader (ap Err (sym p.2 ∙ same_fault _ _ _ p.1 e)) in
-    omega arith
+    record {
+      failed = λ e. let more = c.in_err-deliver_all.ensures.reader (ap Err (sym p.2 ∙ same_fault _ _ _ p.1 e)) in omega arith;
+      memory = λ e. c.in_err-deliver_all.ensures.memory (ap Err (sym p.2 ∙ same_fault _ _ _ p.1 e)) ∙ same;
+      none = rw p.1 tt;
+    }
 
-pub returns-in_err-deliver_all-clause-memory : goal.returns-in_err-deliver_all-clause-memory
-returns-in_err-deliver_all-clause-memory g c = λ e.
-    let p = err_from_is_err_and c.from_residual-in_err-deliver_all.result c.from_residual-in_err-deliver_all.ensures.1 in
-    c.in_err-deliver_all.ensures.memory (ap Err (sym p.2 ∙ same_fault _ _ _ p.1 e)) ∙ c.loop-piece.invariant.faults
+-- a refused request for memory is no failure of the reader
+no_failure : {X : Type 0} (answer : Result X RelayFault) → answer ≡ Err fault.Memory → answer ≡ Err fault.Reader → ⊥
+no_failure answer memory reader = cc
+
+tells_memory : {X : Type 0} (answer : Result X RelayFault) (before after : ℕ) → answer ≡ Err fault.Memory → after ≡ before → TellsRelayFaults answer before after
+tells_memory answer before after is same = record {
+  failed = λ e. absurd (no_failure answer is e);
+  memory = λ e. same;
+  none = rw is tt;
+}
+
+pub returns-in_err-reply-clause-faults : goal.returns-in_err-reply-clause-faults
+returns-in_err-reply-clause-faults g c =
+    let p = err_from_is_err_and c.from_residual-in_err-reply.result c.from_residual-in_err-reply.ensures.1 in
+    tells_memory _ _ _ (p.1 ∙ ap Err (p.2 ∙ c.in_err-reply.ensures.memory)) c.loop-piece.invariant.faults
+
+pub returns-in_err-push-clause-faults : goal.returns-in_err-push-clause-faults
+returns-in_err-push-clause-faults g c =
+    let p = err_from_is_err_and c.from_residual-in_err-push.result c.from_residual-in_err-push.ensures.1 in
+    tells_memory _ _ _ (p.1 ∙ ap Err p.2) c.loop-piece.invariant.faults
