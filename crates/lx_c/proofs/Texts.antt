@@ -1,5 +1,5 @@
 -- Texts that are appended one after the other.
-use Rattle.std.proofs.Common.{ℕ, ◌≡◌, ◌<◌, ◌≤◌, ◌+◌, arith, List, [], ◌∷◌, ◌++◌, length, take, get_or, sym, ap, ◌∙◌, append_assoc}
+use Rattle.std.proofs.Common.{ℕ, ◌≡◌, ◌<◌, ◌≤◌, ◌+◌, arith, Bool, true, false, if◌then◌else◌, List, ◌++◌, take, get_or, sym, ap, ◌∙◌, append_assoc}
 use Rattle.std.specs.Prelude.{Result, OnOk, ⊤}
 use Rattle.std.proofs.lemmas.Result.{on_ok_weaker}
 use Rattle.std.proofs.lemmas.List.{take_all}
@@ -21,8 +21,11 @@ text_end text old mid n i l h =
     h ∙ ap (λ xs. old ++ flat_map text xs) (take_all i (range_with_len 0 n) (omega (arith, length-range_with_len 0 n)))
 
 -- one text and then another
-two : (old a new x y : List ℕ) → a ≡ old ++ x → new ≡ a ++ y → new ≡ old ++ (x ++ y)
+pub two : (old a new x y : List ℕ) → a ≡ old ++ x → new ≡ a ++ y → new ≡ old ++ (x ++ y)
 two old a new x y h k = k ∙ (ap (λ bs. bs ++ y) h ∙ append_assoc old x y)
+
+pub three : (old a b new x y z : List ℕ) → a ≡ old ++ x → b ≡ a ++ y → new ≡ b ++ z → new ≡ old ++ (x ++ y ++ z)
+three old a b new x y z h k l = two old b new (x ++ y) z (two old a b x y h k) l
 
 -- several texts, one after the other
 pub then_2 : {E : Type 0} (r : Result ⊤ E) (old a new x y : List ℕ) → a ≡ old ++ x → OnOk r (new ≡ a ++ y) → OnOk r (new ≡ old ++ (x ++ y))
@@ -57,3 +60,14 @@ pub text_between : {E : Type 0} (r : Result ⊤ E) (text : ℕ → List ℕ) (ol
 text_between r text old head tail mid new n i l h k =
     let all = flat_map text (range_with_len 0 n) in
     then_2 r old mid new (head ++ all) tail (text_end text (old ++ head) mid n i l h ∙ append_assoc old head all) k
+
+-- a text behind the one before it
+pub regrouped : {E : Type 0} (r : Result ⊤ E) (old head new x : List ℕ) → OnOk r (new ≡ (old ++ head) ++ x) → OnOk r (new ≡ old ++ (head ++ x))
+regrouped r old head new x h = on_ok_weaker r (λ last. last ∙ append_assoc old head x) h
+
+-- a text that a test decides
+pub when_true : {E : Type 0} (r : Result ⊤ E) (test : Bool) (old new x y : List ℕ) → test ≡ true → OnOk r (new ≡ old ++ x) → OnOk r (new ≡ old ++ (if test then x else y))
+when_true r test old new x y e h = on_ok_weaker r (λ last. last ∙ ap (λ (b : Bool). old ++ (if b then x else y)) (sym e)) h
+
+pub when_false : {E : Type 0} (r : Result ⊤ E) (test : Bool) (old new x y : List ℕ) → test ≡ false → OnOk r (new ≡ old ++ y) → OnOk r (new ≡ old ++ (if test then x else y))
+when_false r test old new x y e h = on_ok_weaker r (λ last. last ∙ ap (λ (b : Bool). old ++ (if b then x else y)) (sym e)) h

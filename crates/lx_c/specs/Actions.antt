@@ -9,17 +9,14 @@ use Rattle.lx_tables.specs.Texts.{number}
 use Rattle.lx_tables.specs.Model.{Table, rule_at, kind_at}
 use Rattle.lx_c.specs.Options.{Options, has_file}
 use Rattle.lx_c.specs.Numbers.{first_kind}
-use Rattle.lx_c.specs.Templates.{filled, number_then}
+use Rattle.lx_c.specs.Templates.{either, filled, number_then}
 use Rattle.lx_c.specs.declared.templates.TheConstants.{STEP_ARRAY, STEPS_OF, STEPS, ACTIONS, LINE_ENDS, NAMES, KINDS, LINE_END, NO_LINE_END, PENDING, NOTHING_PENDING}
 
--- a kind: its number, where the first kind has this one, and its name where a file declares the kinds
-abbrev pub kind_word : Options → ℕ → Table → ℕ → List ℕ
-kind_word o first table k = if has_file o.include then kind_at table k else number (first + k)
-
+-- a step; a kind is its number, where the first kind has this one, and its name where a file declares the kinds
 abbrev pub step_word : Options → ℕ → Table → Step → List ℕ
 step_word o first table Echo = codes "-2"
 step_word o first table (Begin c) = codes "-" ++ number (4 + c)
-step_word o first table (Return (Name k)) = kind_word o first table k
+step_word o first table (Return (Name k)) = if has_file o.include then kind_at table k else number (first + k)
 step_word o first table (Return (Number n)) = number n
 
 abbrev pub step_entry : Options → ℕ → Table → Step → List ℕ
@@ -56,32 +53,27 @@ action_entry o first table steps = action_word o first table steps ++ codes ",\n
 abbrev pub line_end_entry : Bool → List ℕ
 line_end_entry line_end = if line_end then codes "1,\n" else codes "0,\n"
 
-abbrev pub name_entry : List ℕ → List ℕ
-name_entry kind = codes "\"" ++ kind ++ codes "\",\n"
-
-abbrev pub kind_entry : List ℕ → List ℕ
-kind_entry kind = kind ++ codes ",\n"
+-- the name of a kind, between quotes or without
+abbrev pub kind_entry : List ℕ → List ℕ → List ℕ
+kind_entry quote kind = quote ++ kind ++ quote ++ codes ",\n"
 
 -- an entry for each rule, for each kind
 abbrev pub of_rules : Table → (ℕ → List ℕ) → List ℕ
 of_rules table entry = flat_map entry (range_with_len 0 (length table.rules))
 
-abbrev pub of_kinds : Table → (List ℕ → List ℕ) → List ℕ
-of_kinds table entry = flat_map (λ k. entry (kind_at table k)) (range_with_len 0 (length table.kinds))
+abbrev pub kind_entries : Table → List ℕ → List ℕ
+kind_entries table quote = flat_map (λ k. kind_entry quote (kind_at table k)) (range_with_len 0 (length table.kinds))
 
 -- an array
 abbrev pub array_text : Options → List ℕ → List ℕ → List ℕ
 array_text o head entries = filled o.prefix head ++ entries ++ codes "0};\n"
 
--- true if some rule ends with `$`
-abbrev pub has_line_ends : Table → Bool
-has_line_ends table = list_any (λ rule. rule.line_end) table.rules
-
 abbrev pub line_end_entries : Table → List ℕ
 line_end_entries table = of_rules table (λ r. line_end_entry (rule_at table r).line_end)
 
 abbrev pub line_ends_text : Options → Table → List ℕ
-line_ends_text o table = if has_line_ends table then filled o.prefix LINE_END.now ++ array_text o LINE_ENDS.now (line_end_entries table) else filled o.prefix NO_LINE_END.now
+line_ends_text o table =
+    if list_any (λ rule. rule.line_end) table.rules then filled o.prefix LINE_END.now ++ array_text o LINE_ENDS.now (line_end_entries table) else filled o.prefix NO_LINE_END.now
 
 -- true if some action has an ECHO, after whose token it goes on; after a return none goes on
 abbrev pub is_echo : Step → Bool
@@ -89,18 +81,12 @@ is_echo Echo = true
 is_echo (Begin c) = false
 is_echo (Return kind) = false
 
-abbrev pub has_echo : List Step → Bool
-has_echo steps = list_any is_echo steps
-
 abbrev pub has_echoes : Table → Bool
-has_echoes table = list_any (λ rule. has_echo rule.steps) table.rules
-
-abbrev pub pending_text : Options → Table → List ℕ
-pending_text o table = if has_echoes table then filled o.prefix PENDING.now else filled o.prefix NOTHING_PENDING.now
+has_echoes table = list_any (λ rule. list_any is_echo rule.steps) table.rules
 
 -- the kinds that a file declares, in the order of their names
 abbrev pub kinds_array : Options → Table → List ℕ
-kinds_array o table = if has_file o.include then array_text o KINDS.now (of_kinds table kind_entry) else []
+kinds_array o table = if has_file o.include then array_text o KINDS.now (kind_entries table []) else []
 
 abbrev pub steps_arrays : Options → ℕ → Table → List ℕ
 steps_arrays o first table = of_rules table (λ r. steps_array o first table r (rule_at table r).steps)
@@ -115,7 +101,7 @@ action_entries o first table = of_rules table (λ r. action_entry o first table 
 abbrev pub actions_from : Options → ℕ → Table → List ℕ
 actions_from o first table =
     steps_arrays o first table ++ steps_text o table ++ array_text o ACTIONS.now (action_entries o first table)
-    ++ line_ends_text o table ++ pending_text o table ++ array_text o NAMES.now (of_kinds table name_entry) ++ kinds_array o table
+    ++ line_ends_text o table ++ either o (has_echoes table) PENDING.now NOTHING_PENDING.now ++ array_text o NAMES.now (kind_entries table (codes "\"")) ++ kinds_array o table
 
 abbrev pub actions_text : Options → Table → List ℕ
 actions_text o table = actions_from o (first_kind table) table

@@ -29,18 +29,15 @@ is_prefix (c ∷ text) = is_small_letter c && (list_all is_prefix_byte text && n
 abbrev pub is_include_byte : ℕ → Bool
 is_include_byte c = is_between 32 126 c && not (c == 34 || c == 92)
 
--- 1 to 255 such bytes
-abbrev pub is_include : List ℕ → Bool
-is_include file = nat_le 1 (length file) && (nat_le (length file) 255 && list_all is_include_byte file)
-
-abbrev pub is_any_include : Option (List ℕ) → Bool
-is_any_include None = true
-is_any_include (Some file) = is_include file
+-- no file, or one that is named by 1 to 255 such bytes
+abbrev pub is_include : Option (List ℕ) → Bool
+is_include None = true
+is_include (Some file) = nat_le 1 (length file) && (nat_le (length file) 255 && list_all is_include_byte file)
 
 pub record AreOptions (o : Options) : Type 0 where
   pub prefix : IsTrue (is_prefix o.prefix)
   pub conditions : IsTrue (list_all is_identifier o.conditions)
-  pub include : IsTrue (is_any_include o.include)
+  pub include : IsTrue (is_include o.include)
 
 -- true if a file declares the kinds
 abbrev pub has_file : Option (List ℕ) → Bool
@@ -52,7 +49,7 @@ abbrev pub option_fault : Options → Option OptionFault
 option_fault o =
     if not (is_prefix o.prefix) then Some Prefix
     else if not (list_all is_identifier o.conditions) then Some Condition
-    else if not (is_any_include o.include) then Some Include
+    else if not (is_include o.include) then Some Include
     else None
 
 -- with code for each state, or with rows

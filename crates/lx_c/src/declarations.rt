@@ -1,12 +1,12 @@
 //! The declarations of a scanner in C.
 
 ghost use Rattle.lx_c.specs.Declarations as declarations;
-ghost use Rattle.lx_c.specs.Kinds.{capital, capitals, name_in_c};
+ghost use Rattle.lx_c.specs.Kinds.{capitals, name_in_c};
 ghost use Rattle.lx_c.specs.Numbers.{max_first_kind};
 ghost use Rattle.std.specs.Prelude.{OnOk, length, ◌++◌, ◌<◌, ◌≡◌, ◌≤◌};
 
 use crate::options::Options;
-use crate::pushing::{push, push_filled, push_number, push_number_then};
+use crate::pushing::{push, push_filled, push_number, push_number_then, push_numbered};
 use crate::templates::{CONDITIONS, FIRST_KIND, FUNCTIONS, GUARD, KINDS_END, SPECIAL_KINDS};
 use lx_tables::Tables;
 use std::alloc::AllocError;
@@ -23,21 +23,11 @@ fn push_include(text: &mut Vec<u8>, options: &Options) -> Result<(), AllocError>
     push(text, b"\"\n")
 }
 
-fn to_capital(letter: u8) -> u8
-    ensures { result ≡ capital letter }
-{
-    if b'a' <= letter && letter <= b'z' {
-        letter - 32
-    } else {
-        letter
-    }
-}
-
 fn push_capitals(text: &mut Vec<u8>, word: &[u8]) -> Result<(), AllocError>
     ensures { OnOk result (text.new.items ≡ text.old.items ++ capitals word.now) }
 {
     for letter in word {
-        push(text, &[to_capital(*letter)])?;
+        push(text, &[letter.to_ascii_uppercase()])?;
     }
     Ok(())
 }
@@ -91,36 +81,7 @@ fn push_kind_list(
     Ok(())
 }
 
-// Appends all kinds, if no file declares them.
-fn push_kind_lines(
-    text: &mut Vec<u8>,
-    options: &Options,
-    first: u64,
-    tables: &Tables,
-) -> Result<(), AllocError>
-    requires { first ≤ max_first_kind }
-    ensures { OnOk result (text.new.items
-        ≡ text.old.items ++ declarations.kind_lines options.now first tables.now) }
-{
-    if options.has_include() {
-        Ok(())
-    } else {
-        push_kind_list(text, options, first, tables)
-    }
-}
-
-// Appends the number of the first kind, if no file declares the kinds.
-fn push_first_kind(text: &mut Vec<u8>, options: &Options, first: u64) -> Result<(), AllocError>
-    ensures { OnOk result (text.new.items
-        ≡ text.old.items ++ declarations.first_kind_text options.now first) }
-{
-    if options.has_include() {
-        return Ok(());
-    }
-    push_filled(text, options, FIRST_KIND)?;
-    push_number_then(text, first, b"\n")
-}
-
+// Appends the values of a token: all kinds and the number of the first one only if no file declares the kinds.
 fn push_kinds(
     text: &mut Vec<u8>,
     options: &Options,
@@ -132,9 +93,13 @@ fn push_kinds(
         (text.new.items ≡ text.old.items ++ declarations.kinds_text options.now first tables.now) }
 {
     push_filled(text, options, SPECIAL_KINDS)?;
-    push_kind_lines(text, options, first, tables)?;
+    if options.has_include() {
+        return push_filled(text, options, KINDS_END);
+    }
+    push_kind_list(text, options, first, tables)?;
     push_filled(text, options, KINDS_END)?;
-    push_first_kind(text, options, first)
+    push_filled(text, options, FIRST_KIND)?;
+    push_number_then(text, first, b"\n")
 }
 
 fn push_condition_line(
@@ -164,18 +129,6 @@ fn push_condition_lines(text: &mut Vec<u8>, options: &Options) -> Result<(), All
     Ok(())
 }
 
-fn push_condition_count(
-    text: &mut Vec<u8>,
-    options: &Options,
-    tables: &Tables,
-) -> Result<(), AllocError>
-    ensures { OnOk result (text.new.items
-        ≡ text.old.items ++ declarations.conditions_text options.now tables.now) }
-{
-    push_filled(text, options, CONDITIONS)?;
-    push_number_then(text, u64::from(tables.conditions()), b"\n")
-}
-
 /// Appends the declarations; the first kind has the number `first`.
 pub(crate) fn push_header(
     text: &mut Vec<u8>,
@@ -190,7 +143,13 @@ pub(crate) fn push_header(
     push_filled(text, options, GUARD)?;
     push_include(text, options)?;
     push_kinds(text, options, first, tables)?;
-    push_condition_count(text, options, tables)?;
+    push_numbered(
+        text,
+        options,
+        CONDITIONS,
+        u32::from(tables.conditions()),
+        b"\n",
+    )?;
     push_condition_lines(text, options)?;
     push_filled(text, options, FUNCTIONS)
 }

@@ -4,7 +4,7 @@ ghost use Rattle.lx_automaton.specs.Automata.{accepted_by, class_target, start_o
 ghost use Rattle.lx_c.specs.DirectCode as direct;
 ghost use Rattle.lx_c.specs.Words as rows;
 ghost use Rattle.std.specs.List.{list_any};
-ghost use Rattle.std.specs.Prelude.{IfSome, OnOk, Some, length, not, slice_index_or, ◌==◌, ◌++◌, ◌<◌, ◌≡◌, ◌≤◌};
+ghost use Rattle.std.specs.Prelude.{IfSome, OnOk, length, ◌++◌, ◌<◌, ◌≡◌, ◌≤◌};
 
 use crate::direct_templates::{
     AT_LINE_BEGIN, BACK, BEGIN_MATCH, BEGIN_STATES, BEHIND_LINE_END, END_MATCH, FIRST, GO,
@@ -13,30 +13,22 @@ use crate::direct_templates::{
 };
 use crate::looping::{first_target, push_begin};
 use crate::options::Options;
-use crate::pushing::{push, push_filled, push_number, push_number_then, push_numbered};
-use crate::rows::push_line_begin;
+use crate::pushing::{
+    push, push_either, push_filled, push_number, push_number_then, push_numbered,
+};
+use crate::rows::has_line_begin;
 use crate::rule_word;
 use crate::stepping::{class_target, step_count, target_of};
+use crate::templates::{LINE_BEGIN, NO_LINE_BEGIN};
 use lx_tables::Tables;
 use std::alloc::AllocError;
 
-fn weight(tables: &Tables, state: u32, best: Option<u32>) -> u32
-    requires { state < state_count tables.now.machine }
-    ensures { result ≡ direct.weight tables.now.machine state best }
-{
-    match best {
-        // fewer than three steps to one state are tested one by one
-        None => 2,
-        Some(_) => step_count(tables, state, best),
-    }
-}
-
 // Returns the target of more steps; of two with as many, the first one.
-fn heavier(tables: &Tables, state: u32, best: Option<u32>, target: Option<u32>) -> Option<u32>
+fn better_target(tables: &Tables, state: u32, best: Option<u32>, target: Option<u32>) -> Option<u32>
     requires state { state < state_count tables.now.machine }
     requires best { IfSome best (λ t. t < state_count tables.now.machine) }
     requires target { IfSome target (λ t. t < state_count tables.now.machine) }
-    ensures heavier { result ≡ direct.heavier tables.now.machine state best target }
+    ensures better { result ≡ direct.better_target tables.now.machine state best target }
     ensures below { IfSome result (λ t. t < state_count tables.now.machine) }
 {
     let Some(other) = target else {
@@ -45,7 +37,12 @@ fn heavier(tables: &Tables, state: u32, best: Option<u32>, target: Option<u32>) 
     if other == state {
         return best;
     }
-    if weight(tables, state, best) < weight(tables, state, target) {
+    let most = match best {
+        // fewer than three steps to one state are tested one by one
+        None => 2,
+        Some(_) => step_count(tables, state, best),
+    };
+    if most < step_count(tables, state, target) {
         target
     } else {
         best
@@ -61,14 +58,14 @@ fn main_target(tables: &Tables, state: u32) -> Option<u32>
     let mut best = None;
     for class in 0..tables.classes() {
         let target = class_target(tables, state, class as u8);
-        best = heavier(tables, state, best, target);
+        best = better_target(tables, state, best, target);
     }
     best
 }
 
 // Returns the two bits that say what a state does on a byte.
-fn mark(tables: &Tables, state: u32, byte: u8) -> u64
-    ensures mark { result ≡ direct.mark tables.now.machine state byte }
+fn mark_of(tables: &Tables, state: u32, byte: u8) -> u64
+    ensures mark { result ≡ direct.mark_of tables.now.machine state byte }
     ensures small { result ≤ 2 }
 {
     if state >= tables.states() {
@@ -85,10 +82,10 @@ fn mark_byte(tables: &Tables, group: u32, byte: u8) -> u64
     requires { group ≤ direct.max_group }
     ensures { result ≡ direct.mark_byte tables.now.machine group byte }
 {
-    mark(tables, 4 * group, byte)
-        + 4 * mark(tables, 4 * group + 1, byte)
-        + 16 * mark(tables, 4 * group + 2, byte)
-        + 64 * mark(tables, 4 * group + 3, byte)
+    mark_of(tables, 4 * group, byte)
+        + 4 * mark_of(tables, 4 * group + 1, byte)
+        + 16 * mark_of(tables, 4 * group + 2, byte)
+        + 64 * mark_of(tables, 4 * group + 3, byte)
 }
 
 fn push_mark_line(text: &mut Vec<u8>, tables: &Tables, group: u32) -> Result<(), AllocError>
@@ -113,23 +110,15 @@ fn push_marks(text: &mut Vec<u8>, options: &Options, tables: &Tables) -> Result<
     push(text, b"0};\n")
 }
 
-// Returns true if a condition starts in a state that accepts a rule.
-fn accepts_at_once(tables: &Tables, condition: u16) -> bool
-    requires { condition < length tables.now.machine.starts }
-    ensures { result ≡ direct.accepts_at_once tables.now.machine
-        (slice_index_or tables.now.machine.starts condition (0, 0)) }
-{
-    rule_word(tables, tables.start(condition, false).0) != 0
-        || rule_word(tables, tables.start(condition, true).0) != 0
-}
-
-// Returns true if some condition does, so that a match may be empty.
+// Returns true if some condition starts in a state that accepts a rule, so that a match may be empty.
 fn may_be_empty(tables: &Tables) -> bool
     ensures { result
         ≡ list_any (direct.accepts_at_once tables.now.machine) tables.now.machine.starts }
 {
     for condition in 0..tables.conditions() {
-        if accepts_at_once(tables, condition) {
+        if rule_word(tables, tables.start(condition, false).0) != 0
+            || rule_word(tables, tables.start(condition, true).0) != 0
+        {
             return true;
         }
     }
@@ -137,20 +126,28 @@ fn may_be_empty(tables: &Tables) -> bool
 }
 
 /// Appends the marks of the states, whether line begins make a difference, and whether a match may be empty.
-pub(crate) fn push_marked(
+pub(crate) fn push_direct_arrays(
     text: &mut Vec<u8>,
     options: &Options,
     tables: &Tables,
 ) -> Result<(), AllocError>
     ensures { OnOk result
-        (text.new.items ≡ text.old.items ++ direct.marked_text options.now tables.now) }
+        (text.new.items ≡ text.old.items ++ direct.direct_arrays_text options.now tables.now) }
 {
-    push_line_begin(text, options, tables)?;
-    if may_be_empty(tables) {
-        push_filled(text, options, MAY_BE_EMPTY)?;
-    } else {
-        push_filled(text, options, NONE_IS_EMPTY)?;
-    }
+    push_either(
+        text,
+        options,
+        has_line_begin(tables),
+        LINE_BEGIN,
+        NO_LINE_BEGIN,
+    )?;
+    push_either(
+        text,
+        options,
+        may_be_empty(tables),
+        MAY_BE_EMPTY,
+        NONE_IS_EMPTY,
+    )?;
     push_marks(text, options, tables)
 }
 
@@ -241,61 +238,7 @@ fn push_step(
     push_edge(text, options, tables, state, target)
 }
 
-// Returns true if a state is the wanted one, if one is.
-fn is_it(wanted: Option<u32>, state: u32) -> bool
-    ensures { result ≡ direct.is_it wanted state }
-{
-    match wanted {
-        None => false,
-        Some(wanted) => state == wanted,
-    }
-}
-
-// Appends a step, unless it leads to the state itself or to the main target.
-fn push_step_if(
-    text: &mut Vec<u8>,
-    options: &Options,
-    tables: &Tables,
-    state: u32,
-    main: Option<u32>,
-    class: u8,
-    target: u32,
-) -> Result<(), AllocError>
-    requires state { state < state_count tables.now.machine }
-    requires target { target < state_count tables.now.machine }
-    ensures { OnOk result (text.new.items ≡ text.old.items
-        ++ direct.class_code options.now tables.now.machine state main class (Some target)) }
-{
-    if is_it(Some(state), target) {
-        return Ok(());
-    }
-    if is_it(main, target) {
-        Ok(())
-    } else {
-        push_step(text, options, tables, state, class, target)
-    }
-}
-
-fn push_class_code(
-    text: &mut Vec<u8>,
-    options: &Options,
-    tables: &Tables,
-    state: u32,
-    main: Option<u32>,
-    class: u8,
-    target: Option<u32>,
-) -> Result<(), AllocError>
-    requires state { state < state_count tables.now.machine }
-    requires target { IfSome target (λ t. t < state_count tables.now.machine) }
-    ensures { OnOk result (text.new.items ≡ text.old.items
-        ++ direct.class_code options.now tables.now.machine state main class target) }
-{
-    match target {
-        None => Ok(()),
-        Some(target) => push_step_if(text, options, tables, state, main, class, target),
-    }
-}
-
+// Appends the step on a class, unless it leads to the state itself or to the main target.
 fn push_class(
     text: &mut Vec<u8>,
     options: &Options,
@@ -310,8 +253,16 @@ fn push_class(
         ++ direct.class_code options.now tables.now.machine state main class
         (class_target tables.now.machine state class)) }
 {
-    let target = class_target(tables, state, class);
-    push_class_code(text, options, tables, state, main, class, target)
+    let Some(target) = class_target(tables, state, class) else {
+        return Ok(());
+    };
+    if target == state {
+        return Ok(());
+    }
+    if main == Some(target) {
+        return Ok(());
+    }
+    push_step(text, options, tables, state, class, target)
 }
 
 fn push_classes(
@@ -332,7 +283,7 @@ fn push_classes(
 }
 
 // Appends the steps to the main target.
-fn push_main(
+fn push_main_step(
     text: &mut Vec<u8>,
     options: &Options,
     tables: &Tables,
@@ -354,25 +305,8 @@ fn push_main(
     }
 }
 
-fn push_first_of(
-    text: &mut Vec<u8>,
-    options: &Options,
-    tables: &Tables,
-    state: u32,
-    target: u32,
-) -> Result<(), AllocError>
-    requires state { state < state_count tables.now.machine }
-    requires target { target < state_count tables.now.machine }
-    ensures { OnOk result (text.new.items ≡ text.old.items
-        ++ direct.first_code options.now tables.now.machine state (Some target)) }
-{
-    push_numbered(text, options, FIRST, target, b", *p, 1)) { ")?;
-    push_edge(text, options, tables, state, target)?;
-    push(text, b"}\n")
-}
-
 // Appends the step that is asked for before all others, if there is one.
-fn push_first(
+fn push_first_step(
     text: &mut Vec<u8>,
     options: &Options,
     tables: &Tables,
@@ -386,31 +320,16 @@ fn push_first(
 {
     match target {
         None => Ok(()),
-        Some(target) => push_first_of(text, options, tables, state, target),
+        Some(target) => {
+            push_numbered(text, options, FIRST, target, b", *p, 1)) { ")?;
+            push_edge(text, options, tables, state, target)?;
+            push(text, b"}\n")
+        }
     }
 }
 
-fn push_steps(
-    text: &mut Vec<u8>,
-    options: &Options,
-    tables: &Tables,
-    state: u32,
-    main: Option<u32>,
-) -> Result<(), AllocError>
-    requires state { state < state_count tables.now.machine }
-    requires main { IfSome main (λ t. t < state_count tables.now.machine) }
-    ensures { OnOk result (text.new.items
-        ≡ text.old.items ++ direct.steps_code options.now tables.now.machine state main) }
-{
-    push_begin(text, options, tables, state)?;
-    push_first(text, options, tables, state, first_target(tables, state))?;
-    push(text, b"switch (*p) {\n")?;
-    push_classes(text, options, tables, state, main)?;
-    push_main(text, options, tables, state, main)
-}
-
 // Appends all steps of a state, if it has any.
-fn push_body(
+fn push_steps(
     text: &mut Vec<u8>,
     options: &Options,
     tables: &Tables,
@@ -418,13 +337,17 @@ fn push_body(
 ) -> Result<(), AllocError>
     requires { state < state_count tables.now.machine }
     ensures { OnOk result (text.new.items
-        ≡ text.old.items ++ direct.body_code options.now tables.now.machine state) }
+        ≡ text.old.items ++ direct.steps_code options.now tables.now.machine state) }
 {
     if step_count(tables, state, None) == 0 {
-        Ok(())
-    } else {
-        push_steps(text, options, tables, state, main_target(tables, state))
+        return Ok(());
     }
+    let main = main_target(tables, state);
+    push_begin(text, options, tables, state)?;
+    push_first_step(text, options, tables, state, first_target(tables, state))?;
+    push(text, b"switch (*p) {\n")?;
+    push_classes(text, options, tables, state, main)?;
+    push_main_step(text, options, tables, state, main)
 }
 
 fn push_state(
@@ -438,7 +361,7 @@ fn push_state(
         ≡ text.old.items ++ direct.state_code options.now tables.now.machine state) }
 {
     push_numbered(text, options, STATE_LABEL, state, b":\n")?;
-    push_body(text, options, tables, state)?;
+    push_steps(text, options, tables, state)?;
     push_numbered(text, options, GOTO_RULE, rule_word(tables, state), b";")?;
     push_numbered(text, options, GOTO_STATE, state, b";\n")
 }
@@ -496,31 +419,17 @@ fn push_starts(
     Ok(())
 }
 
-fn push_rule_case(text: &mut Vec<u8>, options: &Options, rule: u16) -> Result<(), AllocError>
-    ensures { OnOk result (text.new.items ≡ text.old.items ++ direct.rule_case options.now rule) }
-{
-    let word = u32::from(rule) + 1;
-    push(text, b"case ")?;
-    push_number(text, u64::from(word))?;
-    push_numbered(text, options, GOTO_RULE_OF, word, b";\n")
-}
-
 fn push_rule_cases(text: &mut Vec<u8>, options: &Options, tables: &Tables) -> Result<(), AllocError>
     ensures { OnOk result
         (text.new.items ≡ text.old.items ++ direct.rule_cases options.now tables.now) }
 {
     for rule in 0..tables.rules() {
-        push_rule_case(text, options, rule)?;
+        let word = u32::from(rule) + 1;
+        push(text, b"case ")?;
+        push_number(text, u64::from(word))?;
+        push_numbered(text, options, GOTO_RULE_OF, word, b";\n")?;
     }
     Ok(())
-}
-
-fn push_rule_code(text: &mut Vec<u8>, options: &Options, rule: u16) -> Result<(), AllocError>
-    ensures { OnOk result (text.new.items ≡ text.old.items ++ direct.rule_code options.now rule) }
-{
-    let word = u32::from(rule) + 1;
-    push_numbered(text, options, RULE_LABEL, word, b":\n")?;
-    push_numbered(text, options, MATCHED, word, b")\n")
 }
 
 fn push_rule_codes(text: &mut Vec<u8>, options: &Options, tables: &Tables) -> Result<(), AllocError>
@@ -528,7 +437,9 @@ fn push_rule_codes(text: &mut Vec<u8>, options: &Options, tables: &Tables) -> Re
         (text.new.items ≡ text.old.items ++ direct.rule_codes options.now tables.now) }
 {
     for rule in 0..tables.rules() {
-        push_rule_code(text, options, rule)?;
+        let word = u32::from(rule) + 1;
+        push_numbered(text, options, RULE_LABEL, word, b":\n")?;
+        push_numbered(text, options, MATCHED, word, b")\n")?;
     }
     Ok(())
 }
@@ -554,24 +465,17 @@ fn push_rules(text: &mut Vec<u8>, options: &Options, tables: &Tables) -> Result<
     push_filled(text, options, SKIPPED)
 }
 
-fn push_ends(text: &mut Vec<u8>, options: &Options, tables: &Tables) -> Result<(), AllocError>
-    ensures { OnOk result (text.new.items
-        ≡ text.old.items ++ direct.ends_text options.now tables.now.machine) }
-{
-    push_starts(text, options, BEHIND_LINE_END, tables)?;
-    push_filled(text, options, END_MATCH)
-}
-
 /// Appends what looks for the next match.
-pub(crate) fn push_direct(
+pub(crate) fn push_direct_walk(
     text: &mut Vec<u8>,
     options: &Options,
     tables: &Tables,
 ) -> Result<(), AllocError>
     ensures { OnOk result
-        (text.new.items ≡ text.old.items ++ direct.direct_text options.now tables.now) }
+        (text.new.items ≡ text.old.items ++ direct.direct_walk_text options.now tables.now) }
 {
     push_states(text, options, tables)?;
     push_rules(text, options, tables)?;
-    push_ends(text, options, tables)
+    push_starts(text, options, BEHIND_LINE_END, tables)?;
+    push_filled(text, options, END_MATCH)
 }

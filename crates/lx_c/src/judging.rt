@@ -36,18 +36,13 @@ fn is_spaced_word(spaced: &[u8]) -> bool
     has_part(WORDS, spaced)
 }
 
-// Returns true if a name begins with the prefix and `_`.
-fn begins_as_own(prefix: &[u8], name: &[u8]) -> bool
-    ensures { result ≡ kinds.begins_as_own prefix.now name.now }
-{
-    name.starts_with(prefix) && (prefix.len() < name.len() && name[prefix.len()] == b'_')
-}
-
 // Returns true if the scanner may need the name of the kind for itself.
 fn is_own(options: &Options, kind: &[u8]) -> bool
     ensures { result ≡ kinds.is_own options.now kind.now }
 {
-    options.has_include() && begins_as_own(options.prefix(), kind)
+    let prefix = options.prefix();
+    options.has_include()
+        && (kind.starts_with(prefix) && (prefix.len() < kind.len() && kind[prefix.len()] == b'_'))
 }
 
 // Returns the name of a kind in C, with a blank on both sides.

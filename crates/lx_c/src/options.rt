@@ -88,18 +88,13 @@ fn are_include_bytes(file: &[u8]) -> bool
     file.iter().all(|c| is_include_byte(*c))
 }
 
-fn is_include(file: &[u8]) -> bool
-    ensures { result ≡ specs.is_include file.now }
-{
-    1 <= file.len() && (file.len() <= 255 && are_include_bytes(file))
-}
-
-fn is_any_include(include: &Option<Vec<u8>>) -> bool
-    ensures { result ≡ specs.is_any_include (option_map (λ file. file.items) include.now) }
+// Returns true if no file is named, or one of 1 to 255 such bytes.
+fn is_include(include: &Option<Vec<u8>>) -> bool
+    ensures { result ≡ specs.is_include (option_map (λ file. file.items) include.now) }
 {
     match include {
         None => true,
-        Some(file) => is_include(file),
+        Some(file) => 1 <= file.len() && (file.len() <= 255 && are_include_bytes(file)),
     }
 }
 
@@ -124,7 +119,7 @@ impl Options {
         if !are_identifiers(&conditions) {
             return Err(OptionFault::Condition);
         }
-        if !is_any_include(&include) {
+        if !is_include(&include) {
             return Err(OptionFault::Include);
         }
         Ok(Options {

@@ -1,8 +1,7 @@
 //! Parts of the text of a scanner, appended.
 
 ghost use Rattle.std.specs.Prelude.{◌≡◌, ◌++◌, OnOk};
-ghost use Rattle.lx_c.specs.DirectCode.{numbered};
-ghost use Rattle.lx_c.specs.Templates.{filled, number_then};
+ghost use Rattle.lx_c.specs.Templates.{either, filled, number_then, numbered};
 ghost use Rattle.lx_tables.specs.Texts.{number};
 
 use crate::options::Options;
@@ -49,6 +48,24 @@ pub(crate) fn push_filled(
         }
     }
     Ok(())
+}
+
+/// Appends one of two templates.
+pub(crate) fn push_either(
+    text: &mut Vec<u8>,
+    options: &Options,
+    is_first: bool,
+    first: &[u8],
+    second: &[u8],
+) -> Result<(), AllocError>
+    ensures { OnOk result (text.new.items
+        ≡ text.old.items ++ either options.now is_first first.now second.now) }
+{
+    if is_first {
+        push_filled(text, options, first)
+    } else {
+        push_filled(text, options, second)
+    }
 }
 
 /// Appends a template, a number, and the bytes after it.

@@ -1,4 +1,4 @@
-use Rattle.std.proofs.Common.{arith, ◌+◌, ◌/◌, length}
+use Rattle.std.proofs.Common.{arith, length}
 use Rattle.std.specs.Prelude.{codes}
 use Rattle.lx_c.specs.Templates.{filled}
 use Rattle.lx_c.specs.declared.templates.TheConstants.{ACTIONS}

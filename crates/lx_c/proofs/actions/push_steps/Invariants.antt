@@ -1,4 +1,4 @@
-use Rattle.std.proofs.Common.{◌≡◌, ◌++◌, ◌+◌, ◌/◌, length, take}
+use Rattle.std.proofs.Common.{◌≡◌, ◌++◌, length, take}
 use Rattle.std.specs.List.{flat_map, range_with_len}
 use Rattle.lx_c.specs.Actions.{steps_entry}
 use Rattle.lx_tables.specs.Model.{rule_at}

@@ -1,4 +1,4 @@
-use Rattle.std.proofs.Common.{arith, ◌+◌, ◌/◌, length}
+use Rattle.std.proofs.Common.{arith, length}
 use Rattle.lx_c.specs.Actions.{steps_array}
 use Rattle.lx_tables.specs.Model.{rule_at}
 use Rattle.lx_c.proofs.Texts.{text_next, text_end}

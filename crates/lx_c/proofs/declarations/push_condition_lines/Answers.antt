@@ -1,4 +1,4 @@
-use Rattle.std.proofs.Common.{arith, ◌+◌, ◌/◌, length}
+use Rattle.std.proofs.Common.{arith, length}
 use Rattle.lx_c.specs.Declarations.{condition_line}
 use Rattle.lx_c.proofs.Texts.{text_next, text_end}
 use Rattle.lx_c.proofs.declarations.push_condition_lines.Goals as goal

@@ -1,4 +1,4 @@
-use Rattle.std.proofs.Common.{arith, ◌+◌, ◌/◌, length}
+use Rattle.std.proofs.Common.{arith}
 use Rattle.lx_c.specs.DirectCode.{case_text}
 use Rattle.lx_c.proofs.Texts.{text_next, text_end}
 use Rattle.lx_c.proofs.direct.push_cases.Goals as goal

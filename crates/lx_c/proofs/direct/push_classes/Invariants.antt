@@ -1,4 +1,4 @@
-use Rattle.std.proofs.Common.{◌≡◌, ◌++◌, ◌+◌, ◌/◌, length, take}
+use Rattle.std.proofs.Common.{◌≡◌, ◌++◌, take}
 use Rattle.std.specs.List.{flat_map, range_with_len}
 use Rattle.lx_c.specs.DirectCode.{class_code}
 use Rattle.lx_automaton.specs.Automata.{class_target}

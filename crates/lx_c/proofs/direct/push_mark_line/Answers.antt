@@ -1,4 +1,4 @@
-use Rattle.std.proofs.Common.{arith, ◌+◌, ◌/◌, length}
+use Rattle.std.proofs.Common.{arith}
 use Rattle.std.specs.Prelude.{codes}
 use Rattle.lx_c.specs.DirectCode.{mark_byte}
 use Rattle.lx_c.specs.Rows.{entry_text}

@@ -1,4 +1,4 @@
-use Rattle.std.proofs.Common.{arith, ◌+◌, ◌/◌, length}
+use Rattle.std.proofs.Common.{arith, length}
 use Rattle.lx_c.specs.DirectCode.{start_code}
 use Rattle.lx_c.proofs.Texts.{text_next, text_end}
 use Rattle.lx_c.proofs.direct.push_starts.Goals as goal

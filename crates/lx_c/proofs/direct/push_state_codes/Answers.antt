@@ -1,4 +1,4 @@
-use Rattle.std.proofs.Common.{arith, ◌+◌, ◌/◌, length}
+use Rattle.std.proofs.Common.{arith}
 use Rattle.lx_c.specs.DirectCode.{state_code}
 use Rattle.lx_automaton.specs.Automata.{state_count}
 use Rattle.lx_c.proofs.Texts.{text_next, text_end}

@@ -1,7 +1,7 @@
 use Rattle.std.proofs.Common.{◌≡◌, ◌<◌, IfSome}
 use Rattle.lx_automaton.specs.Automata.{state_count}
 use Rattle.lx_c.specs.DirectCode.{first_of}
-use Rattle.lx_c.proofs.looping.first_of.Given as goal
+use Rattle.lx_c.proofs.looping.first_target.Given as goal
 
 abbrev pub invariant-loop-class : goal.invariant-loop-class
 invariant-loop-class l = record {
