@@ -9,14 +9,13 @@ ghost use Rattle.std.specs.Prelude.{OnOk, length, ◌++◌, ◌<◌, ◌≡◌, 
 
 use crate::kind_name;
 use crate::options::Options;
-use crate::pushing::{push, push_either, push_filled, push_number, push_number_then};
+use crate::pushing::{PushResult, push, push_either, push_filled, push_number, push_number_then};
 use crate::templates::{
     ACTIONS, KINDS, LINE_END, LINE_ENDS, NAMES, NO_LINE_END, NOTHING_PENDING, PENDING, STEP_ARRAY,
     STEPS, STEPS_OF,
 };
 use lx_rules::rule::{Kind, Step};
 use lx_tables::Tables;
-use std::alloc::AllocError;
 
 // Returns true if an action is nothing or one return.
 fn is_simple(steps: &[Step]) -> bool
@@ -43,7 +42,7 @@ fn push_step_word(
     first: u64,
     tables: &Tables,
     step: Step,
-) -> Result<(), AllocError>
+) -> PushResult
     requires { first ≤ max_first_kind }
     ensures { OnOk result
         (text.new.items ≡ text.old.items ++ actions.step_word options.now first tables.now step) }
@@ -68,7 +67,7 @@ fn push_step_entries(
     first: u64,
     tables: &Tables,
     steps: &[Step],
-) -> Result<(), AllocError>
+) -> PushResult
     requires { first ≤ max_first_kind }
     ensures { OnOk result (text.new.items ≡ text.old.items
         ++ flat_map (actions.step_entry options.now first tables.now) steps.now) }
@@ -87,7 +86,7 @@ fn push_steps_array(
     first: u64,
     tables: &Tables,
     rule: u16,
-) -> Result<(), AllocError>
+) -> PushResult
     requires first { first ≤ max_first_kind }
     requires rule { rule < length tables.now.rules }
     ensures { OnOk result (text.new.items
@@ -109,7 +108,7 @@ fn push_steps_arrays(
     options: &Options,
     first: u64,
     tables: &Tables,
-) -> Result<(), AllocError>
+) -> PushResult
     requires { first ≤ max_first_kind }
     ensures { OnOk result
         (text.new.items ≡ text.old.items ++ actions.steps_arrays options.now first tables.now) }
@@ -121,12 +120,7 @@ fn push_steps_arrays(
 }
 
 // Appends the place of the steps of a rule.
-fn push_steps_entry(
-    text: &mut Vec<u8>,
-    options: &Options,
-    rule: u16,
-    steps: &[Step],
-) -> Result<(), AllocError>
+fn push_steps_entry(text: &mut Vec<u8>, options: &Options, rule: u16, steps: &[Step]) -> PushResult
     ensures { OnOk result
         (text.new.items ≡ text.old.items ++ actions.steps_entry options.now rule steps.now) }
 {
@@ -137,7 +131,7 @@ fn push_steps_entry(
     push_number_then(text, u64::from(rule), b",\n")
 }
 
-fn push_steps(text: &mut Vec<u8>, options: &Options, tables: &Tables) -> Result<(), AllocError>
+fn push_steps(text: &mut Vec<u8>, options: &Options, tables: &Tables) -> PushResult
     ensures { OnOk result
         (text.new.items ≡ text.old.items ++ actions.steps_text options.now tables.now) }
 {
@@ -155,7 +149,7 @@ fn push_action_entry(
     first: u64,
     tables: &Tables,
     steps: &[Step],
-) -> Result<(), AllocError>
+) -> PushResult
     requires { first ≤ max_first_kind }
     ensures { OnOk result (text.new.items
         ≡ text.old.items ++ actions.action_entry options.now first tables.now steps.now) }
@@ -175,7 +169,7 @@ fn push_actions_array(
     options: &Options,
     first: u64,
     tables: &Tables,
-) -> Result<(), AllocError>
+) -> PushResult
     requires { first ≤ max_first_kind }
     ensures { OnOk result (text.new.items
         ≡ text.old.items ++ actions.array_text options.now ACTIONS.now
@@ -188,7 +182,7 @@ fn push_actions_array(
     push(text, b"0};\n")
 }
 
-fn push_line_end_entry(text: &mut Vec<u8>, line_end: bool) -> Result<(), AllocError>
+fn push_line_end_entry(text: &mut Vec<u8>, line_end: bool) -> PushResult
     ensures { OnOk result (text.new.items ≡ text.old.items ++ actions.line_end_entry line_end) }
 {
     if line_end {
@@ -199,7 +193,7 @@ fn push_line_end_entry(text: &mut Vec<u8>, line_end: bool) -> Result<(), AllocEr
 }
 
 // Appends what says which rules end with `$`.
-fn push_line_ends(text: &mut Vec<u8>, options: &Options, tables: &Tables) -> Result<(), AllocError>
+fn push_line_ends(text: &mut Vec<u8>, options: &Options, tables: &Tables) -> PushResult
     ensures { OnOk result
         (text.new.items ≡ text.old.items ++ actions.line_ends_text options.now tables.now) }
 {
@@ -238,7 +232,7 @@ fn has_echoes(tables: &Tables) -> bool
 }
 
 // Appends the entry of a kind: its name, between quotes or without.
-fn push_kind_entry(text: &mut Vec<u8>, quote: &[u8], kind: &[u8]) -> Result<(), AllocError>
+fn push_kind_entry(text: &mut Vec<u8>, quote: &[u8], kind: &[u8]) -> PushResult
     ensures { OnOk result
         (text.new.items ≡ text.old.items ++ actions.kind_entry quote.now kind.now) }
 {
@@ -255,7 +249,7 @@ fn push_kind_entries(
     tables: &Tables,
     head: &[u8],
     quote: &[u8],
-) -> Result<(), AllocError>
+) -> PushResult
     ensures { OnOk result (text.new.items
         ≡ text.old.items ++ actions.array_text options.now head.now
         (actions.kind_entries tables.now quote.now)) }
@@ -268,11 +262,7 @@ fn push_kind_entries(
 }
 
 // Appends the array of the kinds, if a file declares them.
-fn push_kinds_array(
-    text: &mut Vec<u8>,
-    options: &Options,
-    tables: &Tables,
-) -> Result<(), AllocError>
+fn push_kinds_array(text: &mut Vec<u8>, options: &Options, tables: &Tables) -> PushResult
     ensures { OnOk result (text.new.items
         ≡ text.old.items ++ actions.kinds_array options.now tables.now) }
 {
@@ -289,7 +279,7 @@ pub(crate) fn push_actions(
     options: &Options,
     first: u64,
     tables: &Tables,
-) -> Result<(), AllocError>
+) -> PushResult
     requires { first ≤ max_first_kind }
     ensures { OnOk result
         (text.new.items ≡ text.old.items ++ actions.actions_from options.now first tables.now) }

@@ -6,12 +6,11 @@ ghost use Rattle.lx_c.specs.Numbers.{max_first_kind};
 ghost use Rattle.std.specs.Prelude.{OnOk, length, ◌++◌, ◌<◌, ◌≡◌, ◌≤◌};
 
 use crate::options::Options;
-use crate::pushing::{push, push_filled, push_number, push_number_then, push_numbered};
+use crate::pushing::{PushResult, push, push_filled, push_number, push_number_then, push_numbered};
 use crate::templates::{CONDITIONS, FIRST_KIND, FUNCTIONS, GUARD, KINDS_END, SPECIAL_KINDS};
 use lx_tables::Tables;
-use std::alloc::AllocError;
 
-fn push_include(text: &mut Vec<u8>, options: &Options) -> Result<(), AllocError>
+fn push_include(text: &mut Vec<u8>, options: &Options) -> PushResult
     ensures { OnOk result
         (text.new.items ≡ text.old.items ++ declarations.include_text options.now.include) }
 {
@@ -23,7 +22,7 @@ fn push_include(text: &mut Vec<u8>, options: &Options) -> Result<(), AllocError>
     push(text, b"\"\n")
 }
 
-fn push_capitals(text: &mut Vec<u8>, word: &[u8]) -> Result<(), AllocError>
+fn push_capitals(text: &mut Vec<u8>, word: &[u8]) -> PushResult
     ensures { OnOk result (text.new.items ≡ text.old.items ++ capitals word.now) }
 {
     for letter in word {
@@ -33,11 +32,7 @@ fn push_capitals(text: &mut Vec<u8>, word: &[u8]) -> Result<(), AllocError>
 }
 
 /// Appends the name of a kind in C.
-pub(crate) fn push_name(
-    text: &mut Vec<u8>,
-    options: &Options,
-    kind: &[u8],
-) -> Result<(), AllocError>
+pub(crate) fn push_name(text: &mut Vec<u8>, options: &Options, kind: &[u8]) -> PushResult
     ensures { OnOk result (text.new.items ≡ text.old.items ++ name_in_c options.now kind.now) }
 {
     if options.has_include() {
@@ -54,7 +49,7 @@ fn push_kind_line(
     first: u64,
     kind: &[u8],
     place: u32,
-) -> Result<(), AllocError>
+) -> PushResult
     requires { first ≤ max_first_kind }
     ensures { OnOk result (text.new.items
         ≡ text.old.items ++ declarations.kind_line options.now first kind.now place) }
@@ -65,12 +60,7 @@ fn push_kind_line(
     push_number(text, first + u64::from(place))
 }
 
-fn push_kind_list(
-    text: &mut Vec<u8>,
-    options: &Options,
-    first: u64,
-    tables: &Tables,
-) -> Result<(), AllocError>
+fn push_kind_list(text: &mut Vec<u8>, options: &Options, first: u64, tables: &Tables) -> PushResult
     requires { first ≤ max_first_kind }
     ensures { OnOk result (text.new.items
         ≡ text.old.items ++ declarations.kind_list options.now first tables.now) }
@@ -82,12 +72,7 @@ fn push_kind_list(
 }
 
 // Appends the values of a token: all kinds and the number of the first one only if no file declares the kinds.
-fn push_kinds(
-    text: &mut Vec<u8>,
-    options: &Options,
-    first: u64,
-    tables: &Tables,
-) -> Result<(), AllocError>
+fn push_kinds(text: &mut Vec<u8>, options: &Options, first: u64, tables: &Tables) -> PushResult
     requires { first ≤ max_first_kind }
     ensures { OnOk result
         (text.new.items ≡ text.old.items ++ declarations.kinds_text options.now first tables.now) }
@@ -102,11 +87,7 @@ fn push_kinds(
     push_number_then(text, first, b"\n")
 }
 
-fn push_condition_line(
-    text: &mut Vec<u8>,
-    options: &Options,
-    condition: usize,
-) -> Result<(), AllocError>
+fn push_condition_line(text: &mut Vec<u8>, options: &Options, condition: usize) -> PushResult
     requires { condition < length options.now.conditions }
     ensures { OnOk result
         (text.new.items ≡ text.old.items ++ declarations.condition_line options.now condition) }
@@ -119,7 +100,7 @@ fn push_condition_line(
     push_number_then(text, condition as u64, b"\n")
 }
 
-fn push_condition_lines(text: &mut Vec<u8>, options: &Options) -> Result<(), AllocError>
+fn push_condition_lines(text: &mut Vec<u8>, options: &Options) -> PushResult
     ensures { OnOk result
         (text.new.items ≡ text.old.items ++ declarations.condition_lines options.now) }
 {
@@ -135,7 +116,7 @@ pub(crate) fn push_header(
     options: &Options,
     first: u64,
     tables: &Tables,
-) -> Result<(), AllocError>
+) -> PushResult
     requires { first ≤ max_first_kind }
     ensures { OnOk result
         (text.new.items ≡ text.old.items ++ declarations.header_from options.now first tables.now) }

@@ -14,14 +14,13 @@ use crate::direct_templates::{
 use crate::looping::{first_target, push_begin};
 use crate::options::Options;
 use crate::pushing::{
-    push, push_either, push_filled, push_number, push_number_then, push_numbered,
+    PushResult, push, push_either, push_filled, push_number, push_number_then, push_numbered,
 };
 use crate::rows::has_line_begin;
 use crate::rule_word;
 use crate::stepping::{class_target, step_count, target_of};
 use crate::templates::{LINE_BEGIN, NO_LINE_BEGIN};
 use lx_tables::Tables;
-use std::alloc::AllocError;
 
 // Returns the target of more steps; of two with as many, the first one.
 fn better_target(tables: &Tables, state: u32, best: Option<u32>, target: Option<u32>) -> Option<u32>
@@ -88,7 +87,7 @@ fn mark_byte(tables: &Tables, group: u32, byte: u8) -> u64
         + 64 * mark_of(tables, 4 * group + 3, byte)
 }
 
-fn push_mark_line(text: &mut Vec<u8>, tables: &Tables, group: u32) -> Result<(), AllocError>
+fn push_mark_line(text: &mut Vec<u8>, tables: &Tables, group: u32) -> PushResult
     requires { group ≤ direct.max_group }
     ensures { OnOk result
         (text.new.items ≡ text.old.items ++ direct.mark_line tables.now.machine group) }
@@ -99,7 +98,7 @@ fn push_mark_line(text: &mut Vec<u8>, tables: &Tables, group: u32) -> Result<(),
     push(text, b"\n")
 }
 
-fn push_marks(text: &mut Vec<u8>, options: &Options, tables: &Tables) -> Result<(), AllocError>
+fn push_marks(text: &mut Vec<u8>, options: &Options, tables: &Tables) -> PushResult
     ensures { OnOk result
         (text.new.items ≡ text.old.items ++ direct.marks_text options.now tables.now) }
 {
@@ -130,7 +129,7 @@ pub(crate) fn push_direct_arrays(
     text: &mut Vec<u8>,
     options: &Options,
     tables: &Tables,
-) -> Result<(), AllocError>
+) -> PushResult
     ensures { OnOk result
         (text.new.items ≡ text.old.items ++ direct.direct_arrays_text options.now tables.now) }
 {
@@ -152,7 +151,7 @@ pub(crate) fn push_direct_arrays(
 }
 
 // Appends what keeps a place: the one before a step to a state that accepts no rule.
-fn push_keep(text: &mut Vec<u8>, before: u32, after: u32) -> Result<(), AllocError>
+fn push_keep(text: &mut Vec<u8>, before: u32, after: u32) -> PushResult
     ensures { OnOk result (text.new.items ≡ text.old.items ++ direct.keep_text before after) }
 {
     if before == 0 {
@@ -171,7 +170,7 @@ fn push_edge(
     tables: &Tables,
     state: u32,
     target: u32,
-) -> Result<(), AllocError>
+) -> PushResult
     requires state { state < state_count tables.now.machine }
     requires target { target < state_count tables.now.machine }
     ensures { OnOk result (text.new.items
@@ -182,7 +181,7 @@ fn push_edge(
 }
 
 // Appends `case BYTE: ` if a byte is one of a class.
-fn push_case(text: &mut Vec<u8>, tables: &Tables, class: u8, byte: u8) -> Result<(), AllocError>
+fn push_case(text: &mut Vec<u8>, tables: &Tables, class: u8, byte: u8) -> PushResult
     ensures { OnOk result
         (text.new.items ≡ text.old.items ++ direct.case_text tables.now.machine class byte) }
 {
@@ -193,7 +192,7 @@ fn push_case(text: &mut Vec<u8>, tables: &Tables, class: u8, byte: u8) -> Result
     Ok(())
 }
 
-fn push_cases(text: &mut Vec<u8>, tables: &Tables, class: u8) -> Result<(), AllocError>
+fn push_cases(text: &mut Vec<u8>, tables: &Tables, class: u8) -> PushResult
     ensures { OnOk result
         (text.new.items ≡ text.old.items ++ direct.case_texts tables.now.machine class) }
 {
@@ -204,12 +203,7 @@ fn push_cases(text: &mut Vec<u8>, tables: &Tables, class: u8) -> Result<(), Allo
 }
 
 // Appends that a step may be one on a newline.
-fn push_newline(
-    text: &mut Vec<u8>,
-    options: &Options,
-    tables: &Tables,
-    class: u8,
-) -> Result<(), AllocError>
+fn push_newline(text: &mut Vec<u8>, options: &Options, tables: &Tables, class: u8) -> PushResult
     ensures { OnOk result (text.new.items
         ≡ text.old.items ++ direct.newline_text options.now tables.now.machine class) }
 {
@@ -227,7 +221,7 @@ fn push_step(
     state: u32,
     class: u8,
     target: u32,
-) -> Result<(), AllocError>
+) -> PushResult
     requires state { state < state_count tables.now.machine }
     requires target { target < state_count tables.now.machine }
     ensures { OnOk result (text.new.items ≡ text.old.items
@@ -246,7 +240,7 @@ fn push_class(
     state: u32,
     main: Option<u32>,
     class: u8,
-) -> Result<(), AllocError>
+) -> PushResult
     requires state { state < state_count tables.now.machine }
     requires class { class < tables.now.machine.width }
     ensures { OnOk result (text.new.items ≡ text.old.items
@@ -271,7 +265,7 @@ fn push_classes(
     tables: &Tables,
     state: u32,
     main: Option<u32>,
-) -> Result<(), AllocError>
+) -> PushResult
     requires { state < state_count tables.now.machine }
     ensures { OnOk result (text.new.items
         ≡ text.old.items ++ direct.class_codes options.now tables.now.machine state main) }
@@ -289,7 +283,7 @@ fn push_main_step(
     tables: &Tables,
     state: u32,
     main: Option<u32>,
-) -> Result<(), AllocError>
+) -> PushResult
     requires state { state < state_count tables.now.machine }
     requires main { IfSome main (λ t. t < state_count tables.now.machine) }
     ensures { OnOk result (text.new.items
@@ -312,7 +306,7 @@ fn push_first_step(
     tables: &Tables,
     state: u32,
     target: Option<u32>,
-) -> Result<(), AllocError>
+) -> PushResult
     requires state { state < state_count tables.now.machine }
     requires target { IfSome target (λ t. t < state_count tables.now.machine) }
     ensures { OnOk result (text.new.items
@@ -329,12 +323,7 @@ fn push_first_step(
 }
 
 // Appends all steps of a state, if it has any.
-fn push_steps(
-    text: &mut Vec<u8>,
-    options: &Options,
-    tables: &Tables,
-    state: u32,
-) -> Result<(), AllocError>
+fn push_steps(text: &mut Vec<u8>, options: &Options, tables: &Tables, state: u32) -> PushResult
     requires { state < state_count tables.now.machine }
     ensures { OnOk result (text.new.items
         ≡ text.old.items ++ direct.steps_code options.now tables.now.machine state) }
@@ -350,12 +339,7 @@ fn push_steps(
     push_main_step(text, options, tables, state, main)
 }
 
-fn push_state(
-    text: &mut Vec<u8>,
-    options: &Options,
-    tables: &Tables,
-    state: u32,
-) -> Result<(), AllocError>
+fn push_state(text: &mut Vec<u8>, options: &Options, tables: &Tables, state: u32) -> PushResult
     requires { state < state_count tables.now.machine }
     ensures { OnOk result (text.new.items
         ≡ text.old.items ++ direct.state_code options.now tables.now.machine state) }
@@ -366,11 +350,7 @@ fn push_state(
     push_numbered(text, options, GOTO_STATE, state, b";\n")
 }
 
-fn push_state_codes(
-    text: &mut Vec<u8>,
-    options: &Options,
-    tables: &Tables,
-) -> Result<(), AllocError>
+fn push_state_codes(text: &mut Vec<u8>, options: &Options, tables: &Tables) -> PushResult
     ensures { OnOk result
         (text.new.items ≡ text.old.items ++ direct.state_codes options.now tables.now.machine) }
 {
@@ -387,7 +367,7 @@ fn push_start(
     test: &[u8],
     tables: &Tables,
     condition: u16,
-) -> Result<(), AllocError>
+) -> PushResult
     requires { condition < length tables.now.machine.starts }
     ensures { OnOk result (text.new.items ≡ text.old.items
         ++ direct.start_code options.now test.now tables.now.machine condition) }
@@ -404,12 +384,7 @@ fn push_start(
     )
 }
 
-fn push_starts(
-    text: &mut Vec<u8>,
-    options: &Options,
-    test: &[u8],
-    tables: &Tables,
-) -> Result<(), AllocError>
+fn push_starts(text: &mut Vec<u8>, options: &Options, test: &[u8], tables: &Tables) -> PushResult
     ensures { OnOk result (text.new.items
         ≡ text.old.items ++ direct.start_codes options.now test.now tables.now.machine) }
 {
@@ -419,7 +394,7 @@ fn push_starts(
     Ok(())
 }
 
-fn push_rule_cases(text: &mut Vec<u8>, options: &Options, tables: &Tables) -> Result<(), AllocError>
+fn push_rule_cases(text: &mut Vec<u8>, options: &Options, tables: &Tables) -> PushResult
     ensures { OnOk result
         (text.new.items ≡ text.old.items ++ direct.rule_cases options.now tables.now) }
 {
@@ -432,7 +407,7 @@ fn push_rule_cases(text: &mut Vec<u8>, options: &Options, tables: &Tables) -> Re
     Ok(())
 }
 
-fn push_rule_codes(text: &mut Vec<u8>, options: &Options, tables: &Tables) -> Result<(), AllocError>
+fn push_rule_codes(text: &mut Vec<u8>, options: &Options, tables: &Tables) -> PushResult
     ensures { OnOk result
         (text.new.items ≡ text.old.items ++ direct.rule_codes options.now tables.now) }
 {
@@ -444,7 +419,7 @@ fn push_rule_codes(text: &mut Vec<u8>, options: &Options, tables: &Tables) -> Re
     Ok(())
 }
 
-fn push_states(text: &mut Vec<u8>, options: &Options, tables: &Tables) -> Result<(), AllocError>
+fn push_states(text: &mut Vec<u8>, options: &Options, tables: &Tables) -> PushResult
     ensures { OnOk result
         (text.new.items ≡ text.old.items ++ direct.states_text options.now tables.now.machine) }
 {
@@ -454,7 +429,7 @@ fn push_states(text: &mut Vec<u8>, options: &Options, tables: &Tables) -> Result
     push_state_codes(text, options, tables)
 }
 
-fn push_rules(text: &mut Vec<u8>, options: &Options, tables: &Tables) -> Result<(), AllocError>
+fn push_rules(text: &mut Vec<u8>, options: &Options, tables: &Tables) -> PushResult
     ensures { OnOk result
         (text.new.items ≡ text.old.items ++ direct.rules_text options.now tables.now) }
 {
@@ -466,11 +441,7 @@ fn push_rules(text: &mut Vec<u8>, options: &Options, tables: &Tables) -> Result<
 }
 
 /// Appends what looks for the next match.
-pub(crate) fn push_direct_walk(
-    text: &mut Vec<u8>,
-    options: &Options,
-    tables: &Tables,
-) -> Result<(), AllocError>
+pub(crate) fn push_direct_walk(text: &mut Vec<u8>, options: &Options, tables: &Tables) -> PushResult
     ensures { OnOk result
         (text.new.items ≡ text.old.items ++ direct.direct_walk_text options.now tables.now) }
 {

@@ -7,11 +7,10 @@ ghost use Rattle.std.specs.Prelude.{IfSome, OnOk, ◌++◌, ◌<◌, ◌≡◌};
 
 use crate::direct_templates::{AT_END, LOOP, LOOP_RULE, RANGES};
 use crate::options::Options;
-use crate::pushing::{push, push_number, push_number_then, push_numbered};
+use crate::pushing::{PushResult, push, push_number, push_number_then, push_numbered};
 use crate::rule_word;
 use crate::stepping::{class_target, leads, step_count, target_of};
 use lx_tables::Tables;
-use std::alloc::AllocError;
 
 // Returns true if a state steps to itself on a byte; if `staying` is false, true if it doesn't.
 fn stays(tables: &Tables, state: u32, staying: bool, byte: u16) -> bool
@@ -153,7 +152,7 @@ fn push_low_bound(
     state: u32,
     staying: bool,
     byte: u16,
-) -> Result<(), AllocError>
+) -> PushResult
     requires state { state < state_count tables.now.machine }
     requires byte { byte < 256 }
     ensures { OnOk result
@@ -176,7 +175,7 @@ fn push_high_bound(
     state: u32,
     staying: bool,
     byte: u16,
-) -> Result<(), AllocError>
+) -> PushResult
     requires state { state < state_count tables.now.machine }
     requires byte { byte < 256 }
     ensures { OnOk result (text.new.items
@@ -192,12 +191,7 @@ fn push_high_bound(
     push_number_then(text, u64::from(byte), b") || ")
 }
 
-fn push_ranges(
-    text: &mut Vec<u8>,
-    tables: &Tables,
-    state: u32,
-    staying: bool,
-) -> Result<(), AllocError>
+fn push_ranges(text: &mut Vec<u8>, tables: &Tables, state: u32, staying: bool) -> PushResult
     requires { state < state_count tables.now.machine }
     ensures { OnOk result
         (text.new.items ≡ text.old.items ++ direct.ranges_text tables.now.machine state staying) }
@@ -210,12 +204,7 @@ fn push_ranges(
 }
 
 // Appends the loop of a state up to the rule that it accepts.
-fn push_loop_head(
-    text: &mut Vec<u8>,
-    options: &Options,
-    tables: &Tables,
-    state: u32,
-) -> Result<(), AllocError>
+fn push_loop_head(text: &mut Vec<u8>, options: &Options, tables: &Tables, state: u32) -> PushResult
     requires { state < state_count tables.now.machine }
     ensures { OnOk result (text.new.items
         ≡ text.old.items ++ direct.loop_head_text options.now tables.now.machine state) }
@@ -233,12 +222,7 @@ fn push_loop_head(
 }
 
 // Appends the test if the text is at its end, unless it can't be there.
-fn push_end(
-    text: &mut Vec<u8>,
-    options: &Options,
-    tables: &Tables,
-    state: u32,
-) -> Result<(), AllocError>
+fn push_end(text: &mut Vec<u8>, options: &Options, tables: &Tables, state: u32) -> PushResult
     requires { state < state_count tables.now.machine }
     ensures { OnOk result (text.new.items
         ≡ text.old.items ++ direct.end_code options.now tables.now.machine state) }
@@ -256,7 +240,7 @@ pub(crate) fn push_begin(
     options: &Options,
     tables: &Tables,
     state: u32,
-) -> Result<(), AllocError>
+) -> PushResult
     requires { state < state_count tables.now.machine }
     ensures { OnOk result (text.new.items
         ≡ text.old.items ++ direct.begin_code options.now tables.now.machine state) }

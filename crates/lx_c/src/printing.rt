@@ -12,13 +12,13 @@ use crate::direct_templates::{DIRECT_FIRST_LINE, DIRECT_LAST_LINES, MACROS};
 use crate::driver::{CALLS, FURTHER_CALLS, HAS_STEP, HELPERS, NAME_OF_KIND, NAME_OF_NUMBER, WALK};
 use crate::first_kind;
 use crate::options::Options;
-use crate::pushing::{push_either, push_filled};
+use crate::pushing::{PushResult, push_either, push_filled};
 use crate::rows::push_automaton;
 use crate::templates::{FIRST_LINE, LAST_LINES};
 use lx_tables::Tables;
 use std::alloc::{AllocError, Global};
 
-fn push_arrays(text: &mut Vec<u8>, options: &Options, tables: &Tables) -> Result<(), AllocError>
+fn push_arrays(text: &mut Vec<u8>, options: &Options, tables: &Tables) -> PushResult
     ensures { OnOk result (text.new.items ≡ text.old.items ++ arrays_text options.now tables.now) }
 {
     if options.is_direct() {
@@ -28,7 +28,7 @@ fn push_arrays(text: &mut Vec<u8>, options: &Options, tables: &Tables) -> Result
     }
 }
 
-fn push_walk(text: &mut Vec<u8>, options: &Options, tables: &Tables) -> Result<(), AllocError>
+fn push_walk(text: &mut Vec<u8>, options: &Options, tables: &Tables) -> PushResult
     ensures { OnOk result (text.new.items ≡ text.old.items ++ walk_text options.now tables.now) }
 {
     if options.is_direct() {
@@ -38,7 +38,7 @@ fn push_walk(text: &mut Vec<u8>, options: &Options, tables: &Tables) -> Result<(
     }
 }
 
-fn push_driver(text: &mut Vec<u8>, options: &Options, tables: &Tables) -> Result<(), AllocError>
+fn push_driver(text: &mut Vec<u8>, options: &Options, tables: &Tables) -> PushResult
     ensures { OnOk result (text.new.items ≡ text.old.items ++ driver_text options.now tables.now) }
 {
     push_filled(text, options, HELPERS)?;
@@ -62,12 +62,7 @@ fn push_driver(text: &mut Vec<u8>, options: &Options, tables: &Tables) -> Result
     )
 }
 
-fn push_scanner(
-    text: &mut Vec<u8>,
-    options: &Options,
-    first: u64,
-    tables: &Tables,
-) -> Result<(), AllocError>
+fn push_scanner(text: &mut Vec<u8>, options: &Options, first: u64, tables: &Tables) -> PushResult
     requires { first ≤ max_first_kind }
     ensures { OnOk result (text.new.items ≡ text.old.items ++ c_from options.now first tables.now) }
 {

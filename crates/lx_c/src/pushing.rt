@@ -8,15 +8,18 @@ use crate::options::Options;
 use itoa::Buffer;
 use std::alloc::AllocError;
 
+/// What a function returns that appends to a text. Err: memory was refused.
+pub(crate) type PushResult = Result<(), AllocError>;
+
 /// Appends bytes.
-pub(crate) fn push(text: &mut Vec<u8>, bytes: &[u8]) -> Result<(), AllocError>
+pub(crate) fn push(text: &mut Vec<u8>, bytes: &[u8]) -> PushResult
     ensures { OnOk result (text.new.items ≡ text.old.items ++ bytes.now) }
 {
     text.extend_from_slice(bytes)
 }
 
 /// Appends a number.
-pub(crate) fn push_number(text: &mut Vec<u8>, n: u64) -> Result<(), AllocError>
+pub(crate) fn push_number(text: &mut Vec<u8>, n: u64) -> PushResult
     ensures { OnOk result (text.new.items ≡ text.old.items ++ number n) }
 {
     let mut digits = Buffer::new();
@@ -24,7 +27,7 @@ pub(crate) fn push_number(text: &mut Vec<u8>, n: u64) -> Result<(), AllocError>
 }
 
 /// Appends a number and the bytes after it.
-pub(crate) fn push_number_then(text: &mut Vec<u8>, n: u64, after: &[u8]) -> Result<(), AllocError>
+pub(crate) fn push_number_then(text: &mut Vec<u8>, n: u64, after: &[u8]) -> PushResult
     ensures { OnOk result (text.new.items ≡ text.old.items ++ number_then n after.now) }
 {
     push_number(text, n)?;
@@ -32,11 +35,7 @@ pub(crate) fn push_number_then(text: &mut Vec<u8>, n: u64, after: &[u8]) -> Resu
 }
 
 /// Appends a template, with the prefix for each `@`.
-pub(crate) fn push_filled(
-    text: &mut Vec<u8>,
-    options: &Options,
-    template: &[u8],
-) -> Result<(), AllocError>
+pub(crate) fn push_filled(text: &mut Vec<u8>, options: &Options, template: &[u8]) -> PushResult
     ensures { OnOk result
         (text.new.items ≡ text.old.items ++ filled options.now.prefix template.now) }
 {
@@ -57,7 +56,7 @@ pub(crate) fn push_either(
     is_first: bool,
     first: &[u8],
     second: &[u8],
-) -> Result<(), AllocError>
+) -> PushResult
     ensures { OnOk result (text.new.items
         ≡ text.old.items ++ either options.now is_first first.now second.now) }
 {
@@ -75,7 +74,7 @@ pub(crate) fn push_numbered(
     template: &[u8],
     n: u32,
     after: &[u8],
-) -> Result<(), AllocError>
+) -> PushResult
     ensures { OnOk result
         (text.new.items ≡ text.old.items ++ numbered options.now template.now n after.now) }
 {

@@ -8,11 +8,10 @@ ghost use Rattle.std.specs.List.{list_any};
 ghost use Rattle.std.specs.Prelude.{OnOk, length, ◌++◌, ◌<◌, ◌≡◌};
 
 use crate::options::Options;
-use crate::pushing::{push, push_either, push_filled, push_number_then, push_numbered};
+use crate::pushing::{PushResult, push, push_either, push_filled, push_number_then, push_numbered};
 use crate::templates::{CLASSES, LINE_BEGIN, NO_LINE_BEGIN, ROWS, STARTS, WIDTH};
 use crate::{greatest_word, rule_word, start_word, target_word};
 use lx_tables::Tables;
-use std::alloc::AllocError;
 
 /// Returns true if some condition has another start at line begin.
 pub(crate) fn has_line_begin(tables: &Tables) -> bool
@@ -26,7 +25,7 @@ pub(crate) fn has_line_begin(tables: &Tables) -> bool
     false
 }
 
-fn push_zero_entries(text: &mut Vec<u8>, tables: &Tables) -> Result<(), AllocError>
+fn push_zero_entries(text: &mut Vec<u8>, tables: &Tables) -> PushResult
     ensures { OnOk result
         (text.new.items ≡ text.old.items ++ rows.zero_entries tables.now.machine) }
 {
@@ -36,7 +35,7 @@ fn push_zero_entries(text: &mut Vec<u8>, tables: &Tables) -> Result<(), AllocErr
     Ok(())
 }
 
-fn push_row(text: &mut Vec<u8>, tables: &Tables, state: u32) -> Result<(), AllocError>
+fn push_row(text: &mut Vec<u8>, tables: &Tables, state: u32) -> PushResult
     requires { state < state_count tables.now.machine }
     ensures { OnOk result
         (text.new.items ≡ text.old.items ++ rows.row_text tables.now.machine state) }
@@ -48,7 +47,7 @@ fn push_row(text: &mut Vec<u8>, tables: &Tables, state: u32) -> Result<(), Alloc
     push(text, b"\n")
 }
 
-fn push_start(text: &mut Vec<u8>, tables: &Tables, condition: u16) -> Result<(), AllocError>
+fn push_start(text: &mut Vec<u8>, tables: &Tables, condition: u16) -> PushResult
     requires { condition < length tables.now.machine.starts }
     ensures { OnOk result
         (text.new.items ≡ text.old.items ++ rows.start_line tables.now.machine condition) }
@@ -59,7 +58,7 @@ fn push_start(text: &mut Vec<u8>, tables: &Tables, condition: u16) -> Result<(),
 }
 
 // Appends the smallest type that holds all words up to the greatest.
-fn push_type(text: &mut Vec<u8>, most: u64) -> Result<(), AllocError>
+fn push_type(text: &mut Vec<u8>, most: u64) -> PushResult
     ensures { OnOk result (text.new.items ≡ text.old.items ++ rows.type_text most) }
 {
     if most < 256 {
@@ -71,7 +70,7 @@ fn push_type(text: &mut Vec<u8>, most: u64) -> Result<(), AllocError>
     }
 }
 
-fn push_classes(text: &mut Vec<u8>, options: &Options, tables: &Tables) -> Result<(), AllocError>
+fn push_classes(text: &mut Vec<u8>, options: &Options, tables: &Tables) -> PushResult
     ensures { OnOk result (text.new.items
         ≡ text.old.items ++ array_text options.now CLASSES.now
         (rows.class_entries tables.now.machine)) }
@@ -83,7 +82,7 @@ fn push_classes(text: &mut Vec<u8>, options: &Options, tables: &Tables) -> Resul
     push(text, b"0};\n")
 }
 
-fn push_row_entries(text: &mut Vec<u8>, tables: &Tables) -> Result<(), AllocError>
+fn push_row_entries(text: &mut Vec<u8>, tables: &Tables) -> PushResult
     ensures { OnOk result (text.new.items ≡ text.old.items ++ rows.rows_text tables.now.machine) }
 {
     push_zero_entries(text, tables)?;
@@ -100,7 +99,7 @@ fn push_word_array(
     options: &Options,
     tables: &Tables,
     head: &[u8],
-) -> Result<(), AllocError>
+) -> PushResult
     ensures { OnOk result (text.new.items
         ≡ text.old.items ++ rows.word_array_head options.now tables.now head.now) }
 {
@@ -109,7 +108,7 @@ fn push_word_array(
     push_filled(text, options, head)
 }
 
-fn push_rows(text: &mut Vec<u8>, options: &Options, tables: &Tables) -> Result<(), AllocError>
+fn push_rows(text: &mut Vec<u8>, options: &Options, tables: &Tables) -> PushResult
     ensures { OnOk result (text.new.items ≡ text.old.items
         ++ rows.word_array options.now tables.now ROWS.now (rows.rows_text tables.now.machine)) }
 {
@@ -118,11 +117,7 @@ fn push_rows(text: &mut Vec<u8>, options: &Options, tables: &Tables) -> Result<(
     push(text, b"0};\n")
 }
 
-fn push_start_array(
-    text: &mut Vec<u8>,
-    options: &Options,
-    tables: &Tables,
-) -> Result<(), AllocError>
+fn push_start_array(text: &mut Vec<u8>, options: &Options, tables: &Tables) -> PushResult
     ensures { OnOk result (text.new.items ≡ text.old.items
         ++ rows.word_array options.now tables.now STARTS.now (rows.start_lines tables.now.machine)) }
 {
@@ -134,11 +129,7 @@ fn push_start_array(
 }
 
 /// Appends the arrays of the automaton.
-pub(crate) fn push_automaton(
-    text: &mut Vec<u8>,
-    options: &Options,
-    tables: &Tables,
-) -> Result<(), AllocError>
+pub(crate) fn push_automaton(text: &mut Vec<u8>, options: &Options, tables: &Tables) -> PushResult
     ensures { OnOk result
         (text.new.items ≡ text.old.items ++ rows.automaton_text options.now tables.now) }
 {
