@@ -172,12 +172,12 @@ direct_arrays_text o table =
 -- ---- the code of a state
 
 -- the place and the rule are kept where a rule is accepted before a step, and none behind it; rules as their number plus 1, or 0
-abbrev pub keep_text : ℕ → ℕ → List ℕ
-keep_text before behind =
+abbrev pub place_text : ℕ → ℕ → List ℕ
+place_text before behind =
     if before == 0 then [] else if behind == 0 then codes "last = p; rule = " ++ number_then before (codes "; ") else []
 
 abbrev pub edge_text : Options → Machine → ℕ → ℕ → List ℕ
-edge_text o m s t = keep_text (rule_word (accepted_by m s)) (rule_word (accepted_by m t)) ++ numbered o GO.now t (codes ")\n")
+edge_text o m s t = place_text (rule_word (accepted_by m s)) (rule_word (accepted_by m t)) ++ numbered o GO.now t (codes ")\n")
 
 -- the bytes of a class
 abbrev pub case_text : Machine → ℕ → ℕ → List ℕ
@@ -208,13 +208,13 @@ main_code o m s None = codes "default: break;\n}\n"
 main_code o m s (Some t) = numbered o OTHER.now s (codes ")\n") ++ edge_text o m s t ++ codes "}\n"
 
 -- the test whether the text is at its end, where it may be
-abbrev pub end_code : Options → Machine → ℕ → List ℕ
-end_code o m s = if only_starts m s then [] else numbered o AT_END.now (rule_word (accepted_by m s)) (codes ")\n")
+abbrev pub end_test : Options → Machine → ℕ → List ℕ
+end_test o m s = if only_starts m s then [] else numbered o AT_END.now (rule_word (accepted_by m s)) (codes ")\n")
 
 -- the loop of a state, or else that test
-abbrev pub begin_code : Options → Machine → ℕ → List ℕ
-begin_code o m s =
-    if step_count m s (Some s) == 0 then end_code o m s else loop_head_text o m s ++ numbered o LOOP_RULE.now (rule_word (accepted_by m s)) (codes ")\n")
+abbrev pub loop_or_end_code : Options → Machine → ℕ → List ℕ
+loop_or_end_code o m s =
+    if step_count m s (Some s) == 0 then end_test o m s else loop_head_text o m s ++ numbered o LOOP_RULE.now (rule_word (accepted_by m s)) (codes ")\n")
 
 abbrev pub first_code : Options → Machine → ℕ → Option ℕ → List ℕ
 first_code o m s None = []
@@ -224,7 +224,7 @@ first_code o m s (Some t) = numbered o FIRST.now t (codes ", *p, 1)) { ") ++ edg
 abbrev pub steps_code : Options → Machine → ℕ → List ℕ
 steps_code o m s =
     if step_count m s None == 0 then []
-    else begin_code o m s ++ first_code o m s (first_target m s) ++ codes "switch (*p) {\n" ++ class_codes o m s (main_target m s) ++ main_code o m s (main_target m s)
+    else loop_or_end_code o m s ++ first_code o m s (first_target m s) ++ codes "switch (*p) {\n" ++ class_codes o m s (main_target m s) ++ main_code o m s (main_target m s)
 
 -- its label has one more use behind
 abbrev pub state_code : Options → Machine → ℕ → List ℕ

@@ -13,6 +13,9 @@ pub record Options : Type 0 where
   pub include : Option (List ℕ)
   pub direct : Bool
 
+abbrev pub options_of : List ℕ → List (List ℕ) → Option (List ℕ) → Bool → Options
+options_of prefix conditions include direct = record { prefix = prefix; conditions = conditions; include = include; direct = direct }
+
 abbrev pub is_small_letter : ℕ → Bool
 is_small_letter c = is_between 97 122 c
 

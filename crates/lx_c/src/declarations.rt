@@ -71,7 +71,8 @@ fn push_kind_list(text: &mut Vec<u8>, options: &Options, first: u64, tables: &Ta
     Ok(())
 }
 
-// Appends the values of a token: all kinds and the number of the first one only if no file declares the kinds.
+// Appends the values of a token. The kinds, and the number of the first one, are among them if no
+// file declares the kinds.
 fn push_kinds(text: &mut Vec<u8>, options: &Options, first: u64, tables: &Tables) -> PushResult
     requires { first ≤ max_first_kind }
     ensures { OnOk result

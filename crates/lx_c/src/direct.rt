@@ -11,7 +11,7 @@ use crate::direct_templates::{
     GOTO_RULE, GOTO_RULE_OF, GOTO_STATE, MARKS, MATCHED, MAY_BE_EMPTY, NEWLINE, NO_RULE,
     NONE_IS_EMPTY, OTHER, RULE_LABEL, SKIPPED, STATE_LABEL,
 };
-use crate::looping::{first_target, push_begin};
+use crate::looping::{first_target, push_loop_or_end};
 use crate::options::Options;
 use crate::pushing::{
     PushResult, push, push_either, push_filled, push_number, push_number_then, push_numbered,
@@ -109,7 +109,7 @@ fn push_marks(text: &mut Vec<u8>, options: &Options, tables: &Tables) -> PushRes
     push(text, b"0};\n")
 }
 
-// Returns true if some condition starts in a state that accepts a rule, so that a match may be empty.
+// Returns true if a match may be empty: some condition starts in a state that accepts a rule.
 fn may_be_empty(tables: &Tables) -> bool
     ensures { result
         ≡ list_any (direct.accepts_at_once tables.now.machine) tables.now.machine.starts }
@@ -124,7 +124,8 @@ fn may_be_empty(tables: &Tables) -> bool
     false
 }
 
-/// Appends the marks of the states, whether line begins make a difference, and whether a match may be empty.
+/// Appends what stands for the arrays of the automaton: the marks of the states, and macros that say
+/// if line begins make a difference and if a match may be empty.
 pub(crate) fn push_direct_arrays(
     text: &mut Vec<u8>,
     options: &Options,
@@ -151,8 +152,8 @@ pub(crate) fn push_direct_arrays(
 }
 
 // Appends what keeps a place: the one before a step to a state that accepts no rule.
-fn push_keep(text: &mut Vec<u8>, before: u32, after: u32) -> PushResult
-    ensures { OnOk result (text.new.items ≡ text.old.items ++ direct.keep_text before after) }
+fn push_place(text: &mut Vec<u8>, before: u32, after: u32) -> PushResult
+    ensures { OnOk result (text.new.items ≡ text.old.items ++ direct.place_text before after) }
 {
     if before == 0 {
         return Ok(());
@@ -176,7 +177,7 @@ fn push_edge(
     ensures { OnOk result (text.new.items
         ≡ text.old.items ++ direct.edge_text options.now tables.now.machine state target) }
 {
-    push_keep(text, rule_word(tables, state), rule_word(tables, target))?;
+    push_place(text, rule_word(tables, state), rule_word(tables, target))?;
     push_numbered(text, options, GO, target, b")\n")
 }
 
@@ -332,7 +333,7 @@ fn push_steps(text: &mut Vec<u8>, options: &Options, tables: &Tables, state: u32
         return Ok(());
     }
     let main = main_target(tables, state);
-    push_begin(text, options, tables, state)?;
+    push_loop_or_end(text, options, tables, state)?;
     push_first_step(text, options, tables, state, first_target(tables, state))?;
     push(text, b"switch (*p) {\n")?;
     push_classes(text, options, tables, state, main)?;

@@ -52,7 +52,7 @@ fn range_count(tables: &Tables, state: u32, staying: bool) -> u32
     count
 }
 
-// Returns the number of classes on which the target steps to itself and the state doesn't lead there.
+// Returns the number of classes on which the target steps to itself, and the state not there.
 fn stray_count(tables: &Tables, state: u32, target: u32) -> u32
     requires state { state < state_count tables.now.machine }
     requires target { target < state_count tables.now.machine }
@@ -155,8 +155,8 @@ fn push_low_bound(
 ) -> PushResult
     requires state { state < state_count tables.now.machine }
     requires byte { byte < 256 }
-    ensures { OnOk result
-        (text.new.items ≡ text.old.items ++ direct.low_bound tables.now.machine state staying byte) }
+    ensures { OnOk result (text.new.items
+        ≡ text.old.items ++ direct.low_bound tables.now.machine state staying byte) }
 {
     if !begins(tables, state, staying, byte) {
         return Ok(());
@@ -222,10 +222,10 @@ fn push_loop_head(text: &mut Vec<u8>, options: &Options, tables: &Tables, state:
 }
 
 // Appends the test if the text is at its end, unless it can't be there.
-fn push_end(text: &mut Vec<u8>, options: &Options, tables: &Tables, state: u32) -> PushResult
+fn push_end_test(text: &mut Vec<u8>, options: &Options, tables: &Tables, state: u32) -> PushResult
     requires { state < state_count tables.now.machine }
     ensures { OnOk result (text.new.items
-        ≡ text.old.items ++ direct.end_code options.now tables.now.machine state) }
+        ≡ text.old.items ++ direct.end_test options.now tables.now.machine state) }
 {
     if is_start(tables, state) && !is_entered(tables, state) {
         Ok(())
@@ -234,8 +234,8 @@ fn push_end(text: &mut Vec<u8>, options: &Options, tables: &Tables, state: u32) 
     }
 }
 
-/// Appends the loop of a state. A state without one asks if the text is at its end.
-pub(crate) fn push_begin(
+/// Appends the loop of a state, or if it has none the test for the end of the text.
+pub(crate) fn push_loop_or_end(
     text: &mut Vec<u8>,
     options: &Options,
     tables: &Tables,
@@ -243,10 +243,10 @@ pub(crate) fn push_begin(
 ) -> PushResult
     requires { state < state_count tables.now.machine }
     ensures { OnOk result (text.new.items
-        ≡ text.old.items ++ direct.begin_code options.now tables.now.machine state) }
+        ≡ text.old.items ++ direct.loop_or_end_code options.now tables.now.machine state) }
 {
     if step_count(tables, state, Some(state)) == 0 {
-        return push_end(text, options, tables, state);
+        return push_end_test(text, options, tables, state);
     }
     push_loop_head(text, options, tables, state)?;
     push_numbered(text, options, LOOP_RULE, rule_word(tables, state), b")\n")

@@ -118,8 +118,9 @@ fn push_rows(text: &mut Vec<u8>, options: &Options, tables: &Tables) -> PushResu
 }
 
 fn push_start_array(text: &mut Vec<u8>, options: &Options, tables: &Tables) -> PushResult
-    ensures { OnOk result (text.new.items ≡ text.old.items
-        ++ rows.word_array options.now tables.now STARTS.now (rows.start_lines tables.now.machine)) }
+    ensures { OnOk result (text.new.items
+        ≡ text.old.items ++ rows.word_array options.now tables.now STARTS.now
+        (rows.start_lines tables.now.machine)) }
 {
     push_word_array(text, options, tables, STARTS)?;
     for condition in 0..tables.conditions() {

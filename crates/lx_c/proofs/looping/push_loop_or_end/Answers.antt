@@ -2,7 +2,7 @@ use Rattle.std.proofs.Common.{rules, Some}
 use Rattle.std.specs.Prelude.{◌==◌}
 use Rattle.lx_c.specs.DirectCode.{step_count}
 use Rattle.lx_c.proofs.Texts.{then_2, when_false}
-use Rattle.lx_c.proofs.looping.push_begin.Goals as goal
+use Rattle.lx_c.proofs.looping.push_loop_or_end.Goals as goal
 
 pub returns : goal.returns
 returns c =
