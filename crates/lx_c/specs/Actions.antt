@@ -8,7 +8,6 @@ use Rattle.lx_rules.specs.declared.rule.Step.TheVariants.{Echo, Begin, Return}
 use Rattle.lx_tables.specs.Texts.{number}
 use Rattle.lx_tables.specs.Model.{Table, rule_at, kind_at}
 use Rattle.lx_c.specs.Options.{Options, has_file}
-use Rattle.lx_c.specs.Numbers.{first_kind}
 use Rattle.lx_c.specs.Templates.{either, filled, number_then}
 use Rattle.lx_c.specs.declared.templates.TheConstants.{STEP_ARRAY, STEPS_OF, STEPS, ACTIONS, LINE_ENDS, NAMES, KINDS, LINE_END, NO_LINE_END, PENDING, NOTHING_PENDING}
 
@@ -102,6 +101,3 @@ abbrev pub actions_from : Options → ℕ → Table → List ℕ
 actions_from o first table =
     steps_arrays o first table ++ steps_text o table ++ array_text o ACTIONS.now (action_entries o first table)
     ++ line_ends_text o table ++ either o (has_echoes table) PENDING.now NOTHING_PENDING.now ++ array_text o NAMES.now (kind_entries table (codes "\"")) ++ kinds_array o table
-
-abbrev pub actions_text : Options → Table → List ℕ
-actions_text o table = actions_from o (first_kind table) table

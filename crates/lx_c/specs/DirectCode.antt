@@ -129,10 +129,6 @@ abbrev pub is_entered_by : Machine → ℕ → ℕ → Bool
 is_entered_by m s zero = false
 is_entered_by m s (suc n) = is_entered_by m s n || not (step_count m n (Some s) == 0)
 
--- true if matches begin in a state to which no step leads: before these the text isn't at its end
-abbrev pub only_starts : Machine → ℕ → Bool
-only_starts m s = list_any (starts_in s) m.starts && not (is_entered_by m s (state_count m))
-
 -- ---- the marks: for four states a byte each, with two bits for each state
 
 abbrev pub step_mark : ℕ → Option ℕ → ℕ
@@ -152,11 +148,8 @@ mark_byte m g b = mark_of m (4 * g) b + 4 * mark_of m (4 * g + 1) b + 16 * mark_
 abbrev pub mark_line : Machine → ℕ → List ℕ
 mark_line m g = flat_map (λ b. entry_text (mark_byte m g b)) (range_with_len 0 256) ++ codes "\n"
 
-abbrev pub mark_lines : Machine → List ℕ
-mark_lines m = flat_map (mark_line m) (range_with_len 0 (state_count m / 4 + 1))
-
 abbrev pub marks_text : Options → Table → List ℕ
-marks_text o table = array_text o MARKS.now (mark_lines table.machine)
+marks_text o table = array_text o MARKS.now (flat_map (mark_line table.machine) (range_with_len 0 (state_count table.machine / 4 + 1)))
 
 -- ---- whether a match may be empty
 
@@ -207,9 +200,11 @@ abbrev pub main_code : Options → Machine → ℕ → Option ℕ → List ℕ
 main_code o m s None = codes "default: break;\n}\n"
 main_code o m s (Some t) = numbered o OTHER.now s (codes ")\n") ++ edge_text o m s t ++ codes "}\n"
 
--- the test whether the text is at its end, where it may be
+-- the test whether the text is at its end. Before a state in which matches begin, and to which no step leads, it isn't
 abbrev pub end_test : Options → Machine → ℕ → List ℕ
-end_test o m s = if only_starts m s then [] else numbered o AT_END.now (rule_word (accepted_by m s)) (codes ")\n")
+end_test o m s =
+    if list_any (starts_in s) m.starts && not (is_entered_by m s (state_count m)) then []
+    else numbered o AT_END.now (rule_word (accepted_by m s)) (codes ")\n")
 
 -- the loop of a state, or else that test
 abbrev pub loop_or_end_code : Options → Machine → ℕ → List ℕ

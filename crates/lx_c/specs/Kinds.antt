@@ -58,13 +58,9 @@ max_int = 2147483647
 abbrev pub pass_the_limit : Options → Table → Bool
 pass_the_limit o table = if has_file o.include then false else nat_lt max_int (first_kind table + (length table.kinds - 1))
 
--- code for each state is asked for, and the states are too many
-abbrev pub are_too_many : Options → ℕ → Bool
-are_too_many o states = if o.direct then nat_lt max_direct_states states else false
-
--- the fault of the states or the kinds, if there is one
+-- the fault of the states, which are too many for code for each, or of the kinds, if there is one
 abbrev pub kind_fault : Options → Table → Option KindFault
 kind_fault o table =
-    if are_too_many o (state_count table.machine) then Some (States (state_count table.machine))
+    if o.direct && nat_lt max_direct_states (state_count table.machine) then Some (States (state_count table.machine))
     else if pass_the_limit o table then Some Numbers
     else first_name_fault o 0 table.kinds

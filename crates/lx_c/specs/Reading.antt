@@ -61,19 +61,12 @@ action_number first (Return kind ∷ steps) = step_number first (Return kind)
 action_number first (Echo ∷ steps) = (true, 4)
 action_number first (Begin c ∷ steps) = (true, 4)
 
--- the number that the action of a rule gives, and 1 if the rule ends with `$`
-abbrev pub action_of : Table → ℕ → Bool × ℕ
-action_of table r = action_number (first_kind table) (rule_at table r).steps
-
-abbrev pub line_end_of : Table → ℕ → ℕ
-line_end_of table r = if (rule_at table r).line_end then 1 else 0
-
--- the numbers of the arrays of actions are those of the table's rules, in their order
+-- the numbers of the arrays of actions are those of the table's rules, in their order; and 1 for a rule that ends with `$`
 pub record HaveTheActions (o : Options) (table : Table) : Type 0 where
   pub steps : (r : ℕ) → r < length table.rules →
       read_signed false 0 (flat_map (step_entry o (first_kind table) table) (rule_at table r).steps ++ codes "-1};\n") ≡ map (step_number (first_kind table)) (rule_at table r).steps
-  pub actions : read_signed false 0 (action_entries o (first_kind table) table) ≡ map (action_of table) (range_with_len 0 (length table.rules))
-  pub line_ends : read_words 0 (line_end_entries table) ≡ map (line_end_of table) (range_with_len 0 (length table.rules))
+  pub actions : read_signed false 0 (action_entries o (first_kind table) table) ≡ map (λ r. action_number (first_kind table) (rule_at table r).steps) (range_with_len 0 (length table.rules))
+  pub line_ends : read_words 0 (line_end_entries table) ≡ map (λ r. if (rule_at table r).line_end then 1 else 0) (range_with_len 0 (length table.rules))
 
 -- Automata of one width whose arrays are printed alike are the same.
 pub record IsOneToOne : Type 0 where
