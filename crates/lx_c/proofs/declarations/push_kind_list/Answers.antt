@@ -1,9 +1,6 @@
 use Rattle.std.proofs.Common.{arith}
-use Rattle.lx_c.proofs.Texts.{text_end, text_next}
+use Rattle.lx_c.proofs.Texts.{text_end}
 use Rattle.lx_c.proofs.declarations.push_kind_list.Goals as goal
-
-pub loop-place-preserved : goal.loop-place-preserved
-loop-place-preserved c = text_next _ _ _ _ _ c.loop-place.invariant (rw c.kind.ensures at c.in_ok-push_kind_line.ensures)
 
 pub returns : goal.returns
 returns c = text_end _ _ _ _ _ c.loop-place.invariant (omega arith)

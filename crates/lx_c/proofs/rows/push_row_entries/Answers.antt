@@ -2,11 +2,8 @@ use Rattle.std.proofs.Common.{append_assoc, arith, ◌++◌, ◌∙◌}
 use Rattle.std.specs.Prelude.{codes}
 use Rattle.lx_c.specs.Rows.{row_lines, zero_entries}
 use Rattle.lx_automaton.specs.Automata.{state_count}
-use Rattle.lx_c.proofs.Texts.{text_end, text_next}
+use Rattle.lx_c.proofs.Texts.{text_end}
 use Rattle.lx_c.proofs.rows.push_row_entries.Goals as goal
-
-pub loop-state-preserved : goal.loop-state-preserved
-loop-state-preserved c = text_next _ _ _ _ _ c.loop-state.invariant c.in_ok-push_row.ensures
 
 pub returns : goal.returns
 returns c =
