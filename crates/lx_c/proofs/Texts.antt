@@ -73,9 +73,9 @@ text_between r text old head tail mid new n i h e k =
     let all = flat_map text (range_with_len 0 n) in
     then_2 r old mid new (head ++ all) tail (text_end text (old ++ head) mid n i h e ∙ append_assoc old head all) k
 
--- a text behind the one before it
-pub regrouped : {E : Type 0} (r : Result ⊤ E) (old head new x : List ℕ) → OnOk r (new ≡ (old ++ head) ++ x) → OnOk r (new ≡ old ++ (head ++ x))
-regrouped r old head new x h = on_ok_weaker r (λ last. last ∙ append_assoc old head x) h
+-- a text after the one before it
+pub regroup : {E : Type 0} (r : Result ⊤ E) (old head new x : List ℕ) → OnOk r (new ≡ (old ++ head) ++ x) → OnOk r (new ≡ old ++ (head ++ x))
+regroup r old head new x h = on_ok_weaker r (λ last. last ∙ append_assoc old head x) h
 
 -- a text that a test decides
 pub when_true : {E : Type 0} (r : Result ⊤ E) (test : Bool) (old new x y : List ℕ) → test ≡ true → OnOk r (new ≡ old ++ x) → OnOk r (new ≡ old ++ (if test then x else y))

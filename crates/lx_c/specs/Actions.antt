@@ -1,5 +1,5 @@
--- The arrays of what rules do. The steps of an action stand as numbers: a kind or a number that is returned, -2 for ECHO, -4 - c for BEGIN of the condition c,
--- and -1 behind the last. Each array has one entry for each rule behind one for no rule, and is closed by a 0 of its own.
+-- The arrays of what rules do. The steps of an action are numbers: a kind or a number that is returned, -2 for ECHO, -4 - c for BEGIN of the condition c, and -1
+-- after the last one. An array of rules has a 0 for no rule, an entry for each rule, and then a 0 that closes it; an array of kinds has no first 0.
 use Rattle.std.specs.Prelude.{ℕ, ◌+◌, Bool, true, false, if◌then◌else◌, List, [], ◌∷◌, ◌++◌, length, codes}
 use Rattle.std.specs.List.{flat_map, list_any, range_with_len}
 use Rattle.lx_rules.specs.declared.rule.Kind.TheVariants.{Name, Number}
@@ -11,7 +11,7 @@ use Rattle.lx_c.specs.Options.{Options, has_file}
 use Rattle.lx_c.specs.Templates.{either, filled, number_then}
 use Rattle.lx_c.specs.declared.templates.TheConstants.{STEP_ARRAY, STEPS_OF, STEPS, ACTIONS, LINE_ENDS, NAMES, KINDS, LINE_END, NO_LINE_END, PENDING, NOTHING_PENDING}
 
--- a step; a kind is its number, where the first kind has this one, and its name where a file declares the kinds
+-- a step; a kind is its number if the first kind has this one, or its name if a file declares the kinds
 abbrev pub step_word : Options → ℕ → Table → Step → List ℕ
 step_word o first table Echo = codes "-2"
 step_word o first table (Begin c) = codes "-" ++ number (4 + c)
@@ -48,7 +48,7 @@ action_word o first table (Begin c ∷ steps) = codes "-4"
 abbrev pub action_entry : Options → ℕ → Table → List Step → List ℕ
 action_entry o first table steps = action_word o first table steps ++ codes ",\n"
 
--- 1 where the rule ends with `$`, so that one byte of a match is left away
+-- 1 if the rule ends with `$`, so that the last byte of a match isn't part of the token
 abbrev pub line_end_entry : Bool → List ℕ
 line_end_entry line_end = if line_end then codes "1,\n" else codes "0,\n"
 
@@ -96,7 +96,7 @@ steps_text o table = array_text o STEPS.now (of_rules table (λ r. steps_entry o
 abbrev pub action_entries : Options → ℕ → Table → List ℕ
 action_entries o first table = of_rules table (λ r. action_entry o first table (rule_at table r).steps)
 
--- all arrays of what rules do, where the first kind has this number
+-- all arrays of what rules do, if the first kind has this number
 abbrev pub actions_from : Options → ℕ → Table → List ℕ
 actions_from o first table =
     steps_arrays o first table ++ steps_text o table ++ array_text o ACTIONS.now (action_entries o first table)

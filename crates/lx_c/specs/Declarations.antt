@@ -14,7 +14,7 @@ abbrev pub include_text : Option (List ℕ) → List ℕ
 include_text None = []
 include_text (Some file) = codes "#include \"" ++ file ++ codes "\"\n"
 
--- a kind and its number, where the first kind has this one
+-- a kind and its number, if the first kind has this one
 abbrev pub kind_line : Options → ℕ → List ℕ → ℕ → List ℕ
 kind_line o first kind k = codes ",\n    " ++ name_in_c o kind ++ (codes " = " ++ number (first + k))
 
@@ -28,13 +28,13 @@ condition_line o c = codes "#define " ++ o.prefix ++ codes "_in_" ++ slice_index
 abbrev pub condition_lines : Options → List ℕ
 condition_lines o = flat_map (condition_line o) (range_with_len 0 (length o.conditions))
 
--- the values of a token: the special kinds, and where no file declares the kinds, all of them and the number of the first one
+-- the values of a token: the special kinds, and if no file declares the kinds, all kinds and the number of the first one
 abbrev pub kinds_text : Options → ℕ → Table → List ℕ
 kinds_text o first table =
     if has_file o.include then filled o.prefix SPECIAL_KINDS.now ++ filled o.prefix KINDS_END.now
     else filled o.prefix SPECIAL_KINDS.now ++ kind_list o first table ++ filled o.prefix KINDS_END.now ++ filled o.prefix FIRST_KIND.now ++ number_then first (codes "\n")
 
--- the header, where the first kind has this number
+-- the header, if the first kind has this number
 abbrev pub header_from : Options → ℕ → Table → List ℕ
 header_from o first table =
     filled o.prefix GUARD.now ++ include_text o.include ++ kinds_text o first table ++ numbered o CONDITIONS.now (length table.machine.starts) (codes "\n")

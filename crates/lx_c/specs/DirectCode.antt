@@ -1,5 +1,5 @@
 -- Code for each state. In the code of a state its steps to itself are a loop; those to the state to which most classes of bytes lead are one test; and each other
--- class has a case of its own. A state in which matches begin asks before all others for one step to a state that goes on by the same bytes, as blanks do. Where a step is missing, it goes to the code of the rule that the state accepts. Where it accepts none, the last place counts at
+-- class has a case of its own. A state in which matches begin tests first one step to a state that goes on by the same bytes, as blanks do. Where a step is missing, it goes to the code of the rule that the state accepts. Where it accepts none, the last place counts at
 -- which one was accepted; that is kept only on a step from a state that accepts a rule to one that doesn't.
 use Rattle.std.specs.Prelude.{ℕ, zero, suc, ◌+◌, ◌-◌, ◌*◌, ◌/◌, ◌==◌, ◌&&◌, ◌||◌, nat_eq, nat_lt, not, Bool, true, false, if◌then◌else◌, List, [], ◌++◌, Option, Some, None, length, codes, slice_index}
 use Rattle.std.specs.List.{flat_map, list_any, range_with_len}
@@ -16,7 +16,7 @@ use Rattle.lx_c.specs.declared.direct_templates.TheConstants.{MARKS, MAY_BE_EMPT
 
 -- ---- what a state does
 
--- true if a step is there, and leads to the state that is asked for, if one is
+-- true if there is a step, and it leads to the wanted state, if one is
 abbrev pub leads : Option ℕ → Option ℕ → Bool
 leads wanted None = false
 leads None (Some t) = true
@@ -70,7 +70,7 @@ ranges_of m s staying (suc n) = ranges_of m s staying n + (if begins m s staying
 unfoldable pub range_count : Machine → ℕ → Bool → ℕ
 range_count m s staying = ranges_of m s staying 256
 
--- a range, as a test of the byte c. That it is at least 0 and at most 255 isn't asked, since compilers warn of that
+-- a range, as a test of the byte c. It doesn't compare with 0 and 255, since compilers warn of that
 abbrev pub low_bound : Machine → ℕ → Bool → ℕ → List ℕ
 low_bound m s staying b = if not (begins m s staying b) then [] else if b == 0 then codes "(1" else codes "(c >= " ++ number b
 
@@ -84,14 +84,14 @@ range_text m s staying b = low_bound m s staying b ++ high_bound m s staying b
 abbrev pub ranges_text : Machine → ℕ → Bool → List ℕ
 ranges_text m s staying = flat_map (range_text m s staying) (range_with_len 0 256) ++ codes "0"
 
--- the loop of a state up to the rule that it accepts: by comparisons where the bytes on which it steps to itself are one range or two, or all others are, and else by the marks
+-- the loop of a state up to the rule that it accepts: by comparisons if the bytes on which it steps to itself are at most two ranges, or all others are, and else by the marks
 abbrev pub loop_head_text : Options → Machine → ℕ → List ℕ
 loop_head_text o m s =
     if nat_lt (range_count m s true) 3 then numbered o RANGES.now s (codes ", ") ++ ranges_text m s true
     else if nat_lt (range_count m s false) 3 then numbered o RANGES.now s (codes ", !(") ++ ranges_text m s false ++ codes ")"
     else numbered o LOOP.now s (codes "")
 
--- ---- the step that is asked for first
+-- ---- the step that is tested first
 
 -- true if one state steps to itself on a class on which the other one doesn't lead there, and on how many of the first n classes
 abbrev pub is_stray : Machine → ℕ → ℕ → ℕ → Bool
@@ -151,7 +151,7 @@ mark_line m g = flat_map (λ b. entry_text (mark_byte m g b)) (range_with_len 0 
 abbrev pub marks_text : Options → Table → List ℕ
 marks_text o table = array_text o MARKS.now (flat_map (mark_line table.machine) (range_with_len 0 (state_count table.machine / 4 + 1)))
 
--- ---- whether a match may be empty
+-- ---- if a match may be empty
 
 -- true if a condition starts in a state that accepts a rule
 abbrev pub accepts_at_once : Machine → ℕ × ℕ → Bool
@@ -164,10 +164,10 @@ direct_arrays_text o table =
 
 -- ---- the code of a state
 
--- the place and the rule are kept where a rule is accepted before a step, and none behind it; rules as their number plus 1, or 0
+-- the place and the rule are kept if a rule is accepted before a step, and none after it; a rule is its number plus 1, or 0
 abbrev pub place_text : ℕ → ℕ → List ℕ
-place_text before behind =
-    if before == 0 then [] else if behind == 0 then codes "last = p; rule = " ++ number_then before (codes "; ") else []
+place_text before after =
+    if before == 0 then [] else if after == 0 then codes "last = p; rule = " ++ number_then before (codes "; ") else []
 
 abbrev pub edge_text : Options → Machine → ℕ → ℕ → List ℕ
 edge_text o m s t = place_text (rule_word (accepted_by m s)) (rule_word (accepted_by m t)) ++ numbered o GO.now t (codes ")\n")
@@ -200,7 +200,7 @@ abbrev pub main_code : Options → Machine → ℕ → Option ℕ → List ℕ
 main_code o m s None = codes "default: break;\n}\n"
 main_code o m s (Some t) = numbered o OTHER.now s (codes ")\n") ++ edge_text o m s t ++ codes "}\n"
 
--- the test whether the text is at its end. Before a state in which matches begin, and to which no step leads, it isn't
+-- the test for the end of the text. Before a state in which matches begin, and to which no step leads, it isn't
 abbrev pub end_test : Options → Machine → ℕ → List ℕ
 end_test o m s =
     if list_any (starts_in s) m.starts && not (is_entered_by m s (state_count m)) then []
@@ -221,7 +221,7 @@ steps_code o m s =
     if step_count m s None == 0 then []
     else loop_or_end_code o m s ++ first_code o m s (first_target m s) ++ codes "switch (*p) {\n" ++ class_codes o m s (main_target m s) ++ main_code o m s (main_target m s)
 
--- its label has one more use behind
+-- after all else its label is used once more, since compilers warn of a label without a use
 abbrev pub state_code : Options → Machine → ℕ → List ℕ
 state_code o m s =
     numbered o STATE_LABEL.now s (codes ":\n") ++ steps_code o m s ++ numbered o GOTO_RULE.now (rule_word (accepted_by m s)) (codes ";") ++ numbered o GOTO_STATE.now s (codes ";\n")
@@ -260,6 +260,6 @@ abbrev pub rules_text : Options → Table → List ℕ
 rules_text o table =
     filled o.prefix BACK.now ++ rule_cases o table ++ filled o.prefix NO_RULE.now ++ rule_codes o table ++ filled o.prefix SKIPPED.now
 
--- behind a match that is skipped the next one begins
+-- after a match that is skipped the next one begins
 abbrev pub direct_walk_text : Options → Table → List ℕ
 direct_walk_text o table = states_text o table.machine ++ rules_text o table ++ start_codes o BEHIND_LINE_END.now table.machine ++ filled o.prefix END_MATCH.now

@@ -13,7 +13,7 @@ use Rattle.lx_c.specs.declared.words.TheConstants.{WORDS}
 abbrev pub capitals : List ℕ → List ℕ
 capitals text = flat_map (λ c. to_ascii_uppercase c ∷ []) text
 
--- the name of a kind in C: behind the prefix in capitals and _, and as it is where a file declares the kinds
+-- the name of a kind in C: after the prefix in capitals and _, or as it is if a file declares the kinds
 abbrev pub name_in_c : Options → List ℕ → List ℕ
 name_in_c o kind = if has_file o.include then kind else capitals o.prefix ++ codes "_" ++ kind
 
@@ -29,7 +29,7 @@ spaced name = codes " " ++ name ++ codes " "
 unfoldable pub is_word : List ℕ → Bool
 is_word name = has_part (spaced name) WORDS.now
 
--- a name that only the scanner's own may have: the prefix, with _ behind it. A kind behind its prefix begins with a capital, and is none
+-- a name that the scanner may have for itself: it begins with the prefix and _. A kind after its prefix begins with a capital, and is none
 abbrev pub is_own : Options → List ℕ → Bool
 is_own o kind =
     has_file o.include && (starts_with nat_eq kind o.prefix && (nat_lt (length o.prefix) (length kind) && slice_index kind (length o.prefix) == 95))

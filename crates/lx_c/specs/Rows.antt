@@ -1,5 +1,5 @@
--- The automaton as arrays of C. The array of rows begins with a row of zeros, and then has the row of each state: for each class of bytes where it steps, as the place
--- where that state's row begins, 0 for nowhere; and then the number of the rule that it accepts plus 1, or 0.
+-- The automaton as arrays of C. The array of rows begins with a row of zeros, and then has the row of each state: for each class of bytes the target of its
+-- step, as the place where that state's row begins, or 0; and then the number of the rule that it accepts plus 1, or 0.
 use Rattle.std.specs.Prelude.{ℕ, ◌==◌, not, nat_lt, Bool, true, false, if◌then◌else◌, List, ◌++◌, length, codes, slice_index}
 use Rattle.std.specs.List.{flat_map, list_any, range_with_len}
 use Rattle.lx_automaton.specs.Automata.{Machine, state_count, start_of, accepted_by, class_target}

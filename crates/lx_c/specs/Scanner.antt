@@ -25,7 +25,7 @@ driver_text o table =
     filled o.prefix HELPERS.now ++ either o o.direct MACROS.now HAS_STEP.now ++ filled o.prefix CALLS.now ++ walk_text o table ++ filled o.prefix FURTHER_CALLS.now
     ++ either o (has_file o.include) NAME_OF_KIND.now NAME_OF_NUMBER.now ++ either o o.direct DIRECT_LAST_LINES.now LAST_LINES.now
 
--- the scanner, where the first kind has this number
+-- the scanner, if the first kind has this number
 abbrev pub c_from : Options → ℕ → Table → List ℕ
 c_from o first table =
     either o o.direct DIRECT_FIRST_LINE.now FIRST_LINE.now ++ header_from o first table ++ actions_from o first table ++ arrays_text o table ++ driver_text o table

@@ -11,13 +11,13 @@ filled_byte prefix c = if c == 64 then prefix else c ∷ []
 abbrev pub filled : List ℕ → List ℕ → List ℕ
 filled prefix template = flat_map (filled_byte prefix) template
 
--- a number in decimal, and what stands behind it
+-- a number in decimal, and the text after it
 abbrev pub number_then : ℕ → List ℕ → List ℕ
 number_then n text = number n ++ text
 
--- constant text, a number, and what stands behind it
+-- constant text, a number, and the text after it
 abbrev pub numbered : Options → List ℕ → ℕ → List ℕ → List ℕ
-numbered o template n behind = filled o.prefix template ++ number_then n behind
+numbered o template n after = filled o.prefix template ++ number_then n after
 
 -- one of two constant texts
 abbrev pub either : Options → Bool → List ℕ → List ℕ → List ℕ

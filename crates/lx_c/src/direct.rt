@@ -124,8 +124,8 @@ fn may_be_empty(tables: &Tables) -> bool
     false
 }
 
-/// Appends what stands for the arrays of the automaton: the marks of the states, and macros that say
-/// if line begins make a difference and if a match may be empty.
+/// Appends the arrays and macros of code for each state: the marks of the states, if line begins make
+/// a difference, and if a match may be empty.
 pub(crate) fn push_direct_arrays(
     text: &mut Vec<u8>,
     options: &Options,
@@ -361,7 +361,7 @@ fn push_state_codes(text: &mut Vec<u8>, options: &Options, tables: &Tables) -> P
     Ok(())
 }
 
-// Appends where a condition starts, by a test for line begin.
+// Appends the start of a condition, by a test for line begin.
 fn push_start(
     text: &mut Vec<u8>,
     options: &Options,

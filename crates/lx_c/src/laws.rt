@@ -18,8 +18,8 @@ pub fn arrays_are_one_to_one()
     ensures { IsOneToOne }
 {}
 
-/// A law: if no file declares the kinds, the numbers between the braces of the arrays of actions are
-/// what the steps of the rules say.
+/// A law: if no file declares the kinds, the numbers between the braces of the arrays of actions
+/// are what the steps of the rules say.
 pub fn arrays_have_the_actions()
     ensures { (o : Options) (table : Table) → IsTable table → o.include ≡ None
         → HaveTheActions o table }

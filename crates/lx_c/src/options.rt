@@ -101,8 +101,8 @@ fn is_include(include: &Option<Vec<u8>>) -> bool
 
 impl Options {
     /// Makes options of these parts, with rows by classes of bytes. The prefix is a small letter,
-    /// and then up to 31 small letters, digits or `_`. The names of the conditions, of each in order
-    /// or of none, are identifiers. The name of the file is 1 to 255 bytes of 32 to 126 without `"`
+    /// and then up to 31 small letters, digits or `_`. The names of the conditions, of each in
+    /// order or of none, are identifiers. The name of the file is 1 to 255 bytes of 32 to 126 without `"`
     /// and `\`. Err: the first part that isn't so.
     pub fn of(
         prefix: Vec<u8>,

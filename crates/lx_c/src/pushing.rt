@@ -8,7 +8,7 @@ use crate::options::Options;
 use itoa::Buffer;
 use std::alloc::AllocError;
 
-/// What a function returns that appends to a text. Err: memory was refused.
+/// The result of appending to a text. Err: memory was refused.
 pub(crate) type PushResult = Result<(), AllocError>;
 
 /// Appends bytes.
