@@ -300,20 +300,14 @@ fn push_main_step(
     }
 }
 
-// Appends the step that is asked for before all others, if there is one.
-fn push_first_step(
-    text: &mut Vec<u8>,
-    options: &Options,
-    tables: &Tables,
-    state: u32,
-    target: Option<u32>,
-) -> PushResult
-    requires state { state < state_count tables.now.machine }
-    requires target { IfSome target (λ t. t < state_count tables.now.machine) }
-    ensures { OnOk result (text.new.items
-        ≡ text.old.items ++ direct.first_code options.now tables.now.machine state target) }
+// Appends the step that is tested before all others, if there is one.
+fn push_first_step(text: &mut Vec<u8>, options: &Options, tables: &Tables, state: u32) -> PushResult
+    requires { state < state_count tables.now.machine }
+    ensures { OnOk result (text.new.items ≡ text.old.items
+        ++ direct.first_code options.now tables.now.machine state
+        (direct.first_target tables.now.machine state)) }
 {
-    match target {
+    match first_target(tables, state) {
         None => Ok(()),
         Some(target) => {
             push_numbered(text, options, FIRST, target, b", *p, 1)) { ")?;
@@ -334,7 +328,7 @@ fn push_steps(text: &mut Vec<u8>, options: &Options, tables: &Tables, state: u32
     }
     let main = main_target(tables, state);
     push_loop_or_end(text, options, tables, state)?;
-    push_first_step(text, options, tables, state, first_target(tables, state))?;
+    push_first_step(text, options, tables, state)?;
     push(text, b"switch (*p) {\n")?;
     push_classes(text, options, tables, state, main)?;
     push_main_step(text, options, tables, state, main)

@@ -1,4 +1,4 @@
-//! The loop of a state, and the step that is asked for before all others.
+//! The loop of a state, and the step that is tested before all others.
 
 ghost use Rattle.lx_automaton.specs.Automata.{state_count};
 ghost use Rattle.lx_c.specs.DirectCode as direct;
@@ -116,7 +116,7 @@ fn is_start(tables: &Tables, state: u32) -> bool
     false
 }
 
-/// Returns the target of the step that is asked for before all others.
+/// Returns the target of the step that is tested before all others.
 pub(crate) fn first_target(tables: &Tables, state: u32) -> Option<u32>
     requires { state < state_count tables.now.machine }
     ensures target { result ≡ direct.first_target tables.now.machine state }
