@@ -22,13 +22,14 @@ leads wanted None = false
 leads None (Some t) = true
 leads (Some s) (Some t) = t == s
 
--- on how many of the first n classes a state has such a step
-abbrev pub steps_of : Machine → ℕ → Option ℕ → ℕ → ℕ
-steps_of m s wanted zero = 0
-steps_of m s wanted (suc n) = steps_of m s wanted n + (if leads wanted (class_target m s n) then 1 else 0)
+-- how many numbers below n pass a test
+abbrev pub count_below : (ℕ → Bool) → ℕ → ℕ
+count_below test zero = 0
+count_below test (suc n) = count_below test n + (if test n then 1 else 0)
 
+-- on how many classes a state has such a step
 abbrev pub step_count : Machine → ℕ → Option ℕ → ℕ
-step_count m s wanted = steps_of m s wanted m.width
+step_count m s wanted = count_below (λ class. leads wanted (class_target m s class)) m.width
 
 -- the number of steps to a state; two if there is none yet, since fewer than three are tested one by one
 abbrev pub weight : Machine → ℕ → Option ℕ → ℕ
@@ -62,13 +63,9 @@ begins m s staying b = stays m s staying b && (b == 0 || not (stays m s staying 
 abbrev pub ends : Machine → ℕ → Bool → ℕ → Bool
 ends m s staying b = stays m s staying b && (b == 255 || not (stays m s staying (b + 1)))
 
--- the number of such ranges that begin with one of the first n bytes, and of all
-abbrev pub ranges_of : Machine → ℕ → Bool → ℕ → ℕ
-ranges_of m s staying zero = 0
-ranges_of m s staying (suc n) = ranges_of m s staying n + (if begins m s staying n then 1 else 0)
-
+-- the number of such ranges
 unfoldable pub range_count : Machine → ℕ → Bool → ℕ
-range_count m s staying = ranges_of m s staying 256
+range_count m s staying = count_below (begins m s staying) 256
 
 -- a range, as a test of the byte c. It doesn't compare with 0 and 255, since compilers warn of that
 abbrev pub low_bound : Machine → ℕ → Bool → ℕ → List ℕ
@@ -93,17 +90,16 @@ loop_head_text o m s =
 
 -- ---- the step that is tested first
 
--- true if one state steps to itself on a class on which the other one doesn't lead there, and on how many of the first n classes
+-- true if state t steps to itself on a class on which s doesn't lead there, and on how many classes
 abbrev pub is_stray : Machine → ℕ → ℕ → ℕ → Bool
-is_stray m s t n = leads (Some t) (class_target m t n) && not (leads (Some t) (class_target m s n))
+is_stray m s t class = leads (Some t) (class_target m t class) && not (leads (Some t) (class_target m s class))
 
-abbrev pub strays_of : Machine → ℕ → ℕ → ℕ → ℕ
-strays_of m s t zero = 0
-strays_of m s t (suc n) = strays_of m s t n + (if is_stray m s t n then 1 else 0)
+abbrev pub stray_count : Machine → ℕ → ℕ → ℕ
+stray_count m s t = count_below (is_stray m s t) m.width
 
 -- true if a state steps to itself, and the first one leads there on all of those bytes
 abbrev pub goes_on : Machine → ℕ → ℕ → Bool
-goes_on m s t = not (t == s) && (not (step_count m t (Some t) == 0) && strays_of m s t m.width == 0)
+goes_on m s t = not (t == s) && (not (step_count m t (Some t) == 0) && stray_count m s t == 0)
 
 abbrev pub earlier_target : Machine → ℕ → Option ℕ → Option ℕ → Option ℕ
 earlier_target m s (Some t) target = Some t

@@ -56,7 +56,7 @@ fn range_count(tables: &Tables, state: u32, staying: bool) -> u32
 fn stray_count(tables: &Tables, state: u32, target: u32) -> u32
     requires state { state < state_count tables.now.machine }
     requires target { target < state_count tables.now.machine }
-    ensures { result ≡ direct.strays_of tables.now.machine state target tables.now.machine.width }
+    ensures { result ≡ direct.stray_count tables.now.machine state target }
 {
     let mut count: u32 = 0;
     for class in 0..tables.classes() {
