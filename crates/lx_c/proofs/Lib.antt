@@ -1,6 +1,5 @@
 pub mod ActionsRead
 pub mod NameFaults
-pub mod NoneOf
 pub mod Numbers
 pub mod OneAutomaton
 pub mod Reading

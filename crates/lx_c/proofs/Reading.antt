@@ -35,7 +35,7 @@ entry_read n behind small =
     ap (λ bs. read_words 0 bs) (append_assoc (decimal n) (44 ∷ []) behind)
     ∙ (digits_read 0 (decimal n) behind (digits_decimal own n (omega arith)) ∙ ap (λ (v : ℕ). v ∷ read_words 0 behind) value)
 
--- so many entries, from number a on
+-- n entries, from number a on
 entries_read : (word : ℕ → ℕ) (a n : ℕ) (behind : List ℕ) → ((k : ℕ) → k < a + n → word k < 4294967296) →
     read_words 0 (flat_map (λ k. entry_text (word k)) (range_with_len a n) ++ behind) ≡ map word (range_with_len a n) ++ read_words 0 behind
 entries_read word a zero behind small = refl
@@ -60,7 +60,7 @@ row_read m s behind h l =
     ∙ (ap (λ ns. map (λ c. target_word m (class_target m s c)) (range_with_len 0 m.width) ++ ns) (entry_read rule (10 ∷ behind) (h.rules s))
     ∙ sym (append_assoc (map (λ c. target_word m (class_target m s c)) (range_with_len 0 m.width)) (rule ∷ []) (read_words 0 behind)))))
 
--- so many rows, from state a on
+-- n rows, from state a on
 row_lines_read : (m : Machine) (a n : ℕ) → AreSmall m → a + n ≤ state_count m → read_words 0 (flat_map (row_text m) (range_with_len a n)) ≡ flat_map (row_words m) (range_with_len a n)
 row_lines_read m a zero h l = refl
 row_lines_read m a (suc n) h l = row_read m a (flat_map (row_text m) (range_with_len (a + 1) n)) h (omega arith) ∙ ap (λ ns. row_words m a ++ ns) (row_lines_read m (a + 1) n h (omega arith))
@@ -89,7 +89,7 @@ start_read m c behind h l =
     ∙ (ap (λ bs. read_words 0 bs) (append_assoc (entry_text first) (entry_text second) (10 ∷ behind))
     ∙ (entry_read first (entry_text second ++ (10 ∷ behind)) (h.starts c false l) ∙ ap (λ ns. first ∷ ns) (entry_read second (10 ∷ behind) (h.starts c true l))))
 
--- so many starts, from condition a on
+-- n starts, from condition a on
 starts_read : (m : Machine) (a n : ℕ) → AreSmall m → a + n ≤ length m.starts →
     read_words 0 (flat_map (start_line m) (range_with_len a n)) ≡ flat_map (λ c. row_of m (start_of m c false) ∷ (row_of m (start_of m c true) ∷ [])) (range_with_len a n)
 starts_read m a zero h l = refl

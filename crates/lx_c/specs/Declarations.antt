@@ -6,7 +6,7 @@ use Rattle.lx_tables.specs.Model.{Table, kind_at}
 use Rattle.lx_c.specs.Options.{Options, has_file}
 use Rattle.lx_c.specs.Kinds.{name_in_c}
 use Rattle.lx_c.specs.Numbers.{first_kind}
-use Rattle.lx_c.specs.Templates.{filled, number_then}
+use Rattle.lx_c.specs.Templates.{filled, number_then, numbered}
 use Rattle.lx_c.specs.declared.templates.TheConstants.{GUARD, SPECIAL_KINDS, KINDS_END, FIRST_KIND, CONDITIONS, FUNCTIONS}
 
 -- the file that declares the kinds
@@ -14,23 +14,12 @@ abbrev pub include_text : Option (List ℕ) → List ℕ
 include_text None = []
 include_text (Some file) = codes "#include \"" ++ file ++ codes "\"\n"
 
--- a kind and its number, where the first kind has this one
+-- a kind and its number, if the first kind has this one
 abbrev pub kind_line : Options → ℕ → List ℕ → ℕ → List ℕ
 kind_line o first kind k = codes ",\n    " ++ name_in_c o kind ++ (codes " = " ++ number (first + k))
 
 abbrev pub kind_list : Options → ℕ → Table → List ℕ
 kind_list o first table = flat_map (λ k. kind_line o first (kind_at table k) k) (range_with_len 0 (length table.kinds))
-
--- all kinds, where no file declares them
-abbrev pub kind_lines : Options → ℕ → Table → List ℕ
-kind_lines o first table = if has_file o.include then [] else kind_list o first table
-
--- the first number of kinds
-abbrev pub first_kind_text : Options → ℕ → List ℕ
-first_kind_text o first = if has_file o.include then [] else filled o.prefix FIRST_KIND.now ++ number_then first (codes "\n")
-
-abbrev pub conditions_text : Options → Table → List ℕ
-conditions_text o table = filled o.prefix CONDITIONS.now ++ number_then (length table.machine.starts) (codes "\n")
 
 -- a start condition and its number
 abbrev pub condition_line : Options → ℕ → List ℕ
@@ -39,14 +28,17 @@ condition_line o c = codes "#define " ++ o.prefix ++ codes "_in_" ++ slice_index
 abbrev pub condition_lines : Options → List ℕ
 condition_lines o = flat_map (condition_line o) (range_with_len 0 (length o.conditions))
 
--- the values of a token: the special kinds, and all others
+-- the values of a token: the special kinds, and if no file declares the kinds, all kinds and the number of the first one
 abbrev pub kinds_text : Options → ℕ → Table → List ℕ
-kinds_text o first table = filled o.prefix SPECIAL_KINDS.now ++ kind_lines o first table ++ filled o.prefix KINDS_END.now ++ first_kind_text o first
+kinds_text o first table =
+    if has_file o.include then filled o.prefix SPECIAL_KINDS.now ++ filled o.prefix KINDS_END.now
+    else filled o.prefix SPECIAL_KINDS.now ++ kind_list o first table ++ filled o.prefix KINDS_END.now ++ filled o.prefix FIRST_KIND.now ++ number_then first (codes "\n")
 
--- the header, where the first kind has this number
+-- the header, if the first kind has this number
 abbrev pub header_from : Options → ℕ → Table → List ℕ
 header_from o first table =
-    filled o.prefix GUARD.now ++ include_text o.include ++ kinds_text o first table ++ conditions_text o table ++ condition_lines o ++ filled o.prefix FUNCTIONS.now
+    filled o.prefix GUARD.now ++ include_text o.include ++ kinds_text o first table ++ numbered o CONDITIONS.now (length table.machine.starts) (codes "\n")
+    ++ condition_lines o ++ filled o.prefix FUNCTIONS.now
 
 -- the header
 abbrev pub header_text : Options → Table → List ℕ

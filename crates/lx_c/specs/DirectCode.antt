@@ -1,8 +1,9 @@
 -- Code for each state. In the code of a state its steps to itself are a loop; those to the state to which most classes of bytes lead are one test; and each other
--- class has a case of its own. A state in which matches begin asks before all others for one step to a state that goes on by the same bytes, as blanks do. Where a step is missing, it goes to the code of the rule that the state accepts. Where it accepts none, the last place counts at
+-- class has a case of its own. A state in which matches begin tests first one step to a state that goes on by the same bytes, as blanks do. Where a step is missing, it goes to the code of the rule that the state accepts. Where it accepts none, the last place counts at
 -- which one was accepted; that is kept only on a step from a state that accepts a rule to one that doesn't.
-use Rattle.std.specs.Prelude.{ℕ, zero, suc, ◌+◌, ◌-◌, ◌*◌, ◌/◌, ◌==◌, ◌&&◌, ◌||◌, nat_lt, not, Bool, true, false, if◌then◌else◌, List, [], ◌++◌, Option, Some, None, length, codes, slice_index}
+use Rattle.std.specs.Prelude.{ℕ, zero, suc, ◌+◌, ◌-◌, ◌*◌, ◌/◌, ◌==◌, ◌&&◌, ◌||◌, nat_eq, nat_lt, not, Bool, true, false, if◌then◌else◌, List, [], ◌++◌, Option, Some, None, length, codes, slice_index}
 use Rattle.std.specs.List.{flat_map, list_any, range_with_len}
+use Rattle.std.specs.Option.{option_eq}
 use Rattle.lx_automaton.specs.Automata.{Machine, state_count, start_of, accepted_by, class_target, target_of}
 use Rattle.lx_tables.specs.Model.{Table}
 use Rattle.lx_tables.specs.Texts.{number}
@@ -10,37 +11,25 @@ use Rattle.lx_c.specs.Options.{Options}
 use Rattle.lx_c.specs.Actions.{array_text}
 use Rattle.lx_c.specs.Rows.{entry_text, line_begin_text}
 use Rattle.lx_c.specs.Words.{rule_word}
-use Rattle.lx_c.specs.Templates.{filled, number_then}
+use Rattle.lx_c.specs.Templates.{either, filled, number_then, numbered}
 use Rattle.lx_c.specs.declared.direct_templates.TheConstants.{MARKS, MAY_BE_EMPTY, NONE_IS_EMPTY, BEGIN_MATCH, AT_LINE_BEGIN, BEHIND_LINE_END, GOTO_STATE, BEGIN_STATES, STATE_LABEL, LOOP, RANGES, LOOP_RULE, AT_END, FIRST, NEWLINE, GO, OTHER, GOTO_RULE, BACK, GOTO_RULE_OF, NO_RULE, RULE_LABEL, MATCHED, SKIPPED, END_MATCH}
-
--- constant text, a number, and what stands behind it
-abbrev pub numbered : Options → List ℕ → ℕ → List ℕ → List ℕ
-numbered o template n behind = filled o.prefix template ++ number_then n behind
 
 -- ---- what a state does
 
--- true if a step is there, and leads to the state that is asked for, if one is
+-- true if there is a step, and it leads to the wanted state, if one is
 abbrev pub leads : Option ℕ → Option ℕ → Bool
 leads wanted None = false
 leads None (Some t) = true
 leads (Some s) (Some t) = t == s
 
--- true if it is that state, if one is given
-abbrev pub is_it : Option ℕ → ℕ → Bool
-is_it None t = false
-is_it (Some s) t = t == s
+-- how many numbers below n pass a test
+abbrev pub count_below : (ℕ → Bool) → ℕ → ℕ
+count_below test zero = 0
+count_below test (suc n) = count_below test n + (if test n then 1 else 0)
 
-abbrev pub one_if : Bool → ℕ
-one_if true = 1
-one_if false = 0
-
--- on how many of the first n classes a state has such a step
-abbrev pub steps_of : Machine → ℕ → Option ℕ → ℕ → ℕ
-steps_of m s wanted zero = 0
-steps_of m s wanted (suc n) = steps_of m s wanted n + one_if (leads wanted (class_target m s n))
-
+-- on how many classes a state has such a step
 abbrev pub step_count : Machine → ℕ → Option ℕ → ℕ
-step_count m s wanted = steps_of m s wanted m.width
+step_count m s wanted = count_below (λ class. leads wanted (class_target m s class)) m.width
 
 -- the number of steps to a state; two if there is none yet, since fewer than three are tested one by one
 abbrev pub weight : Machine → ℕ → Option ℕ → ℕ
@@ -48,17 +37,17 @@ weight m s None = 2
 weight m s (Some t) = step_count m s (Some t)
 
 -- the target of more steps, and of two with as many the first one; steps to itself don't count
-abbrev pub heavier : Machine → ℕ → Option ℕ → Option ℕ → Option ℕ
-heavier m s best None = best
-heavier m s best (Some t) = if t == s then best else if nat_lt (weight m s best) (weight m s (Some t)) then Some t else best
+abbrev pub better_target : Machine → ℕ → Option ℕ → Option ℕ → Option ℕ
+better_target m s best None = best
+better_target m s best (Some t) = if t == s then best else if nat_lt (weight m s best) (weight m s (Some t)) then Some t else best
 
 -- the state to which most of the steps on the first n classes lead
-abbrev pub heaviest : Machine → ℕ → ℕ → Option ℕ
-heaviest m s zero = None
-heaviest m s (suc n) = heavier m s (heaviest m s n) (class_target m s n)
+abbrev pub best_of : Machine → ℕ → ℕ → Option ℕ
+best_of m s zero = None
+best_of m s (suc n) = better_target m s (best_of m s n) (class_target m s n)
 
 abbrev pub main_target : Machine → ℕ → Option ℕ
-main_target m s = heaviest m s m.width
+main_target m s = best_of m s m.width
 
 -- ---- the loop of a state
 
@@ -74,72 +63,53 @@ begins m s staying b = stays m s staying b && (b == 0 || not (stays m s staying 
 abbrev pub ends : Machine → ℕ → Bool → ℕ → Bool
 ends m s staying b = stays m s staying b && (b == 255 || not (stays m s staying (b + 1)))
 
--- the number of such ranges that begin with one of the first n bytes, and of all
-abbrev pub ranges_of : Machine → ℕ → Bool → ℕ → ℕ
-ranges_of m s staying zero = 0
-ranges_of m s staying (suc n) = ranges_of m s staying n + one_if (begins m s staying n)
-
+-- the number of such ranges
 unfoldable pub range_count : Machine → ℕ → Bool → ℕ
-range_count m s staying = ranges_of m s staying 256
+range_count m s staying = count_below (begins m s staying) 256
 
--- a range, as a test of the byte c. That it is at least 0 and at most 255 isn't asked, since compilers warn of that
-abbrev pub low_bound : ℕ → List ℕ
-low_bound b = if b == 0 then codes "(1" else codes "(c >= " ++ number b
+-- a range, as a test of the byte c. It doesn't compare with 0 and 255, since compilers warn of that
+abbrev pub low_bound : Machine → ℕ → Bool → ℕ → List ℕ
+low_bound m s staying b = if not (begins m s staying b) then [] else if b == 0 then codes "(1" else codes "(c >= " ++ number b
 
-abbrev pub at_most : ℕ → List ℕ
-at_most b = codes " && c <= " ++ number_then b (codes ") || ")
-
-abbrev pub high_bound : ℕ → List ℕ
-high_bound b = if b == 255 then codes ") || " else at_most b
-
-abbrev pub low_text : Machine → ℕ → Bool → ℕ → List ℕ
-low_text m s staying b = if begins m s staying b then low_bound b else []
-
-abbrev pub high_text : Machine → ℕ → Bool → ℕ → List ℕ
-high_text m s staying b = if ends m s staying b then high_bound b else []
+abbrev pub high_bound : Machine → ℕ → Bool → ℕ → List ℕ
+high_bound m s staying b =
+    if not (ends m s staying b) then [] else if b == 255 then codes ") || " else codes " && c <= " ++ number_then b (codes ") || ")
 
 abbrev pub range_text : Machine → ℕ → Bool → ℕ → List ℕ
-range_text m s staying b = low_text m s staying b ++ high_text m s staying b
+range_text m s staying b = low_bound m s staying b ++ high_bound m s staying b
 
 abbrev pub ranges_text : Machine → ℕ → Bool → List ℕ
 ranges_text m s staying = flat_map (range_text m s staying) (range_with_len 0 256) ++ codes "0"
 
--- the loop of a state up to the rule that it accepts: by comparisons where the bytes on which it steps to itself are one range or two, or all others are, and else by the marks
-abbrev pub own_ranges_text : Options → Machine → ℕ → List ℕ
-own_ranges_text o m s = numbered o RANGES.now s (codes ", ") ++ ranges_text m s true
-
-abbrev pub other_ranges_text : Options → Machine → ℕ → List ℕ
-other_ranges_text o m s = numbered o RANGES.now s (codes ", !(") ++ ranges_text m s false ++ codes ")"
-
-abbrev pub stays_text : Options → Machine → ℕ → List ℕ
-stays_text o m s =
-    if nat_lt (range_count m s true) 3 then own_ranges_text o m s
-    else if nat_lt (range_count m s false) 3 then other_ranges_text o m s
+-- the loop of a state up to the rule that it accepts: by comparisons if the bytes on which it steps to itself are at most two ranges, or all others are, and else by the marks
+abbrev pub loop_head_text : Options → Machine → ℕ → List ℕ
+loop_head_text o m s =
+    if nat_lt (range_count m s true) 3 then numbered o RANGES.now s (codes ", ") ++ ranges_text m s true
+    else if nat_lt (range_count m s false) 3 then numbered o RANGES.now s (codes ", !(") ++ ranges_text m s false ++ codes ")"
     else numbered o LOOP.now s (codes "")
 
--- ---- the step that is asked for first
+-- ---- the step that is tested first
 
--- true if one state steps to itself on a class on which the other one doesn't lead there, and on how many of the first n classes
+-- true if state t steps to itself on a class on which s doesn't lead there, and on how many classes
 abbrev pub is_stray : Machine → ℕ → ℕ → ℕ → Bool
-is_stray m s t n = leads (Some t) (class_target m t n) && not (leads (Some t) (class_target m s n))
+is_stray m s t class = leads (Some t) (class_target m t class) && not (leads (Some t) (class_target m s class))
 
-abbrev pub strays_of : Machine → ℕ → ℕ → ℕ → ℕ
-strays_of m s t zero = 0
-strays_of m s t (suc n) = strays_of m s t n + one_if (is_stray m s t n)
+abbrev pub stray_count : Machine → ℕ → ℕ → ℕ
+stray_count m s t = count_below (is_stray m s t) m.width
 
 -- true if a state steps to itself, and the first one leads there on all of those bytes
 abbrev pub goes_on : Machine → ℕ → ℕ → Bool
-goes_on m s t = not (t == s) && (not (step_count m t (Some t) == 0) && strays_of m s t m.width == 0)
+goes_on m s t = not (t == s) && (not (step_count m t (Some t) == 0) && stray_count m s t == 0)
 
-abbrev pub picked : Machine → ℕ → Option ℕ → Option ℕ → Option ℕ
-picked m s (Some t) target = Some t
-picked m s None None = None
-picked m s None (Some t) = if goes_on m s t then Some t else None
+abbrev pub earlier_target : Machine → ℕ → Option ℕ → Option ℕ → Option ℕ
+earlier_target m s (Some t) target = Some t
+earlier_target m s None None = None
+earlier_target m s None (Some t) = if goes_on m s t then Some t else None
 
 -- the first such state to which the first n classes lead
 abbrev pub first_of : Machine → ℕ → ℕ → Option ℕ
 first_of m s zero = None
-first_of m s (suc n) = picked m s (first_of m s n) (class_target m s n)
+first_of m s (suc n) = earlier_target m s (first_of m s n) (class_target m s n)
 
 -- true if a match begins in a state
 abbrev pub starts_in : ℕ → ℕ × ℕ → Bool
@@ -155,58 +125,48 @@ abbrev pub is_entered_by : Machine → ℕ → ℕ → Bool
 is_entered_by m s zero = false
 is_entered_by m s (suc n) = is_entered_by m s n || not (step_count m n (Some s) == 0)
 
--- true if matches begin in a state to which no step leads: before these the text isn't at its end
-abbrev pub only_starts : Machine → ℕ → Bool
-only_starts m s = list_any (starts_in s) m.starts && not (is_entered_by m s (state_count m))
-
 -- ---- the marks: for four states a byte each, with two bits for each state
 
-abbrev pub how : ℕ → Option ℕ → ℕ
-how s None = 0
-how s (Some t) = if t == s then 1 else 2
+abbrev pub step_mark : ℕ → Option ℕ → ℕ
+step_mark s None = 0
+step_mark s (Some t) = if t == s then 1 else 2
 
-abbrev pub mark : Machine → ℕ → ℕ → ℕ
-mark m s b = if nat_lt s (state_count m) then how s (target_of m s b) else 0
+abbrev pub mark_of : Machine → ℕ → ℕ → ℕ
+mark_of m s b = if nat_lt s (state_count m) then step_mark s (target_of m s b) else 0
 
 -- the greatest number of a group of four states of which each has a number of 32 bits
 abbrev pub max_group : ℕ
 max_group = 1073741823
 
 abbrev pub mark_byte : Machine → ℕ → ℕ → ℕ
-mark_byte m g b = mark m (4 * g) b + 4 * mark m (4 * g + 1) b + 16 * mark m (4 * g + 2) b + 64 * mark m (4 * g + 3) b
+mark_byte m g b = mark_of m (4 * g) b + 4 * mark_of m (4 * g + 1) b + 16 * mark_of m (4 * g + 2) b + 64 * mark_of m (4 * g + 3) b
 
 abbrev pub mark_line : Machine → ℕ → List ℕ
 mark_line m g = flat_map (λ b. entry_text (mark_byte m g b)) (range_with_len 0 256) ++ codes "\n"
 
-abbrev pub mark_lines : Machine → List ℕ
-mark_lines m = flat_map (mark_line m) (range_with_len 0 (state_count m / 4 + 1))
-
 abbrev pub marks_text : Options → Table → List ℕ
-marks_text o table = array_text o MARKS.now (mark_lines table.machine)
+marks_text o table = array_text o MARKS.now (flat_map (mark_line table.machine) (range_with_len 0 (state_count table.machine / 4 + 1)))
 
--- ---- whether a match may be empty
+-- ---- if a match may be empty
 
 -- true if a condition starts in a state that accepts a rule
 abbrev pub accepts_at_once : Machine → ℕ × ℕ → Bool
 accepts_at_once m start = not (rule_word (accepted_by m start.0) == 0) || not (rule_word (accepted_by m start.1) == 0)
 
-abbrev pub emptiness_text : Options → Table → List ℕ
-emptiness_text o table =
-    if list_any (accepts_at_once table.machine) table.machine.starts then filled o.prefix MAY_BE_EMPTY.now else filled o.prefix NONE_IS_EMPTY.now
-
 -- the text in the place of the arrays of the automaton
-abbrev pub marked_text : Options → Table → List ℕ
-marked_text o table = line_begin_text o table ++ emptiness_text o table ++ marks_text o table
+abbrev pub direct_arrays_text : Options → Table → List ℕ
+direct_arrays_text o table =
+    line_begin_text o table ++ either o (list_any (accepts_at_once table.machine) table.machine.starts) MAY_BE_EMPTY.now NONE_IS_EMPTY.now ++ marks_text o table
 
 -- ---- the code of a state
 
--- the place and the rule are kept where a rule is accepted before a step, and none behind it; rules as their number plus 1, or 0
-abbrev pub keep_text : ℕ → ℕ → List ℕ
-keep_text before behind =
-    if before == 0 then [] else if behind == 0 then codes "last = p; rule = " ++ number_then before (codes "; ") else []
+-- the place and the rule are kept if a rule is accepted before a step, and none after it; a rule is its number plus 1, or 0
+abbrev pub place_text : ℕ → ℕ → List ℕ
+place_text before after =
+    if before == 0 then [] else if after == 0 then codes "last = p; rule = " ++ number_then before (codes "; ") else []
 
 abbrev pub edge_text : Options → Machine → ℕ → ℕ → List ℕ
-edge_text o m s t = keep_text (rule_word (accepted_by m s)) (rule_word (accepted_by m t)) ++ numbered o GO.now t (codes ")\n")
+edge_text o m s t = place_text (rule_word (accepted_by m s)) (rule_word (accepted_by m t)) ++ numbered o GO.now t (codes ")\n")
 
 -- the bytes of a class
 abbrev pub case_text : Machine → ℕ → ℕ → List ℕ
@@ -226,7 +186,7 @@ step_code o m s class t = case_texts m class ++ newline_text o m class ++ edge_t
 abbrev pub class_code : Options → Machine → ℕ → Option ℕ → ℕ → Option ℕ → List ℕ
 class_code o m s main class None = []
 class_code o m s main class (Some t) =
-    if t == s then [] else if is_it main t then [] else step_code o m s class t
+    if t == s then [] else if option_eq nat_eq main (Some t) then [] else step_code o m s class t
 
 abbrev pub class_codes : Options → Machine → ℕ → Option ℕ → List ℕ
 class_codes o m s main = flat_map (λ class. class_code o m s main class (class_target m s class)) (range_with_len 0 m.width)
@@ -236,33 +196,31 @@ abbrev pub main_code : Options → Machine → ℕ → Option ℕ → List ℕ
 main_code o m s None = codes "default: break;\n}\n"
 main_code o m s (Some t) = numbered o OTHER.now s (codes ")\n") ++ edge_text o m s t ++ codes "}\n"
 
-abbrev pub loop_code : Options → Machine → ℕ → List ℕ
-loop_code o m s = stays_text o m s ++ numbered o LOOP_RULE.now (rule_word (accepted_by m s)) (codes ")\n")
-
--- the test whether the text is at its end, where it may be
-abbrev pub end_code : Options → Machine → ℕ → List ℕ
-end_code o m s = if only_starts m s then [] else numbered o AT_END.now (rule_word (accepted_by m s)) (codes ")\n")
+-- the test for the end of the text. Before a state in which matches begin, and to which no step leads, it isn't
+abbrev pub end_test : Options → Machine → ℕ → List ℕ
+end_test o m s =
+    if list_any (starts_in s) m.starts && not (is_entered_by m s (state_count m)) then []
+    else numbered o AT_END.now (rule_word (accepted_by m s)) (codes ")\n")
 
 -- the loop of a state, or else that test
-abbrev pub begin_code : Options → Machine → ℕ → List ℕ
-begin_code o m s = if step_count m s (Some s) == 0 then end_code o m s else loop_code o m s
+abbrev pub loop_or_end_code : Options → Machine → ℕ → List ℕ
+loop_or_end_code o m s =
+    if step_count m s (Some s) == 0 then end_test o m s else loop_head_text o m s ++ numbered o LOOP_RULE.now (rule_word (accepted_by m s)) (codes ")\n")
 
 abbrev pub first_code : Options → Machine → ℕ → Option ℕ → List ℕ
 first_code o m s None = []
 first_code o m s (Some t) = numbered o FIRST.now t (codes ", *p, 1)) { ") ++ edge_text o m s t ++ codes "}\n"
 
-abbrev pub steps_code : Options → Machine → ℕ → Option ℕ → List ℕ
-steps_code o m s main =
-    begin_code o m s ++ first_code o m s (first_target m s) ++ codes "switch (*p) {\n" ++ class_codes o m s main ++ main_code o m s main
-
 -- all steps of a state, if it has any
-abbrev pub body_code : Options → Machine → ℕ → List ℕ
-body_code o m s = if step_count m s None == 0 then [] else steps_code o m s (main_target m s)
+abbrev pub steps_code : Options → Machine → ℕ → List ℕ
+steps_code o m s =
+    if step_count m s None == 0 then []
+    else loop_or_end_code o m s ++ first_code o m s (first_target m s) ++ codes "switch (*p) {\n" ++ class_codes o m s (main_target m s) ++ main_code o m s (main_target m s)
 
--- its label has one more use behind
+-- after all else its label is used once more, since compilers warn of a label without a use
 abbrev pub state_code : Options → Machine → ℕ → List ℕ
 state_code o m s =
-    numbered o STATE_LABEL.now s (codes ":\n") ++ body_code o m s ++ numbered o GOTO_RULE.now (rule_word (accepted_by m s)) (codes ";") ++ numbered o GOTO_STATE.now s (codes ";\n")
+    numbered o STATE_LABEL.now s (codes ":\n") ++ steps_code o m s ++ numbered o GOTO_RULE.now (rule_word (accepted_by m s)) (codes ";") ++ numbered o GOTO_STATE.now s (codes ";\n")
 
 abbrev pub state_codes : Options → Machine → List ℕ
 state_codes o m = flat_map (state_code o m) (range_with_len 0 (state_count m))
@@ -298,9 +256,6 @@ abbrev pub rules_text : Options → Table → List ℕ
 rules_text o table =
     filled o.prefix BACK.now ++ rule_cases o table ++ filled o.prefix NO_RULE.now ++ rule_codes o table ++ filled o.prefix SKIPPED.now
 
--- behind a match that is skipped the next one begins
-abbrev pub ends_text : Options → Machine → List ℕ
-ends_text o m = start_codes o BEHIND_LINE_END.now m ++ filled o.prefix END_MATCH.now
-
-abbrev pub direct_text : Options → Table → List ℕ
-direct_text o table = states_text o table.machine ++ rules_text o table ++ ends_text o table.machine
+-- after a match that is skipped the next one begins
+abbrev pub direct_walk_text : Options → Table → List ℕ
+direct_walk_text o table = states_text o table.machine ++ rules_text o table ++ start_codes o BEHIND_LINE_END.now table.machine ++ filled o.prefix END_MATCH.now

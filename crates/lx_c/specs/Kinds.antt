@@ -1,21 +1,19 @@
 -- The kinds in C: their names, and what is wrong with them.
 use Rattle.std.specs.Prelude.{ℕ, ◌+◌, ◌-◌, ◌==◌, nat_eq, nat_lt, ◌&&◌, ◌||◌, Bool, false, if◌then◌else◌, List, [], ◌∷◌, ◌++◌, Option, Some, None, length, codes, slice_index}
+use Rattle.std.specs.Char.{to_ascii_uppercase}
 use Rattle.std.specs.List.{flat_map, starts_with}
 use Rattle.lx_automaton.specs.Automata.{state_count}
 use Rattle.lx_tables.specs.Model.{Table}
 use Rattle.lx_c.specs.Numbers.{first_kind}
-use Rattle.lx_c.specs.Options.{Options, is_small_letter, has_file, max_direct_states}
+use Rattle.lx_c.specs.Options.{Options, has_file, max_direct_states}
 use Rattle.lx_c.specs.declared.fault.KindFault.{KindFault}
 use Rattle.lx_c.specs.declared.fault.KindFault.TheVariants.{Numbers, Reserved, Declared, States}
 use Rattle.lx_c.specs.declared.words.TheConstants.{WORDS}
 
-abbrev pub capital : ℕ → ℕ
-capital c = if is_small_letter c then c - 32 else c
-
 abbrev pub capitals : List ℕ → List ℕ
-capitals text = flat_map (λ c. capital c ∷ []) text
+capitals text = flat_map (λ c. to_ascii_uppercase c ∷ []) text
 
--- the name of a kind in C: behind the prefix in capitals and _, and as it is where a file declares the kinds
+-- the name of a kind in C: after the prefix in capitals and _, or as it is if a file declares the kinds
 abbrev pub name_in_c : Options → List ℕ → List ℕ
 name_in_c o kind = if has_file o.include then kind else capitals o.prefix ++ codes "_" ++ kind
 
@@ -31,13 +29,10 @@ spaced name = codes " " ++ name ++ codes " "
 unfoldable pub is_word : List ℕ → Bool
 is_word name = has_part (spaced name) WORDS.now
 
--- a name that only the scanner's own may have: the prefix, with _ behind it
-abbrev pub begins_as_own : List ℕ → List ℕ → Bool
-begins_as_own prefix name = starts_with nat_eq name prefix && (nat_lt (length prefix) (length name) && slice_index name (length prefix) == 95)
-
--- A kind behind its prefix begins with a capital, and is none.
+-- a name that the scanner may have for itself: it begins with the prefix and _. A kind after its prefix begins with a capital, and is none
 abbrev pub is_own : Options → List ℕ → Bool
-is_own o kind = if has_file o.include then begins_as_own o.prefix kind else false
+is_own o kind =
+    has_file o.include && (starts_with nat_eq kind o.prefix && (nat_lt (length o.prefix) (length kind) && slice_index kind (length o.prefix) == 95))
 
 -- the fault of the name of a kind
 abbrev pub name_fault : Options → ℕ → List ℕ → Option KindFault
@@ -63,13 +58,9 @@ max_int = 2147483647
 abbrev pub pass_the_limit : Options → Table → Bool
 pass_the_limit o table = if has_file o.include then false else nat_lt max_int (first_kind table + (length table.kinds - 1))
 
--- code for each state is asked for, and the states are too many
-abbrev pub are_too_many : Options → ℕ → Bool
-are_too_many o states = if o.direct then nat_lt max_direct_states states else false
-
--- the fault of the states or the kinds, if there is one
+-- the fault of the states, which are too many for code for each, or of the kinds, if there is one
 abbrev pub kind_fault : Options → Table → Option KindFault
 kind_fault o table =
-    if are_too_many o (state_count table.machine) then Some (States (state_count table.machine))
+    if o.direct && nat_lt max_direct_states (state_count table.machine) then Some (States (state_count table.machine))
     else if pass_the_limit o table then Some Numbers
     else first_name_fault o 0 table.kinds

@@ -13,7 +13,7 @@ use Rattle.lx_c.specs.Actions.{step_entry, action_entries, line_end_entries}
 use Rattle.lx_c.specs.Rows.{class_entries, rows_text, start_lines}
 use Rattle.lx_c.specs.Words.{row_width, row_of, target_word, rule_word}
 
--- the numbers between braces (C99, 6.7.8): digits make a number, behind those of n, a comma ends it, and all else is passed over
+-- the numbers between braces (C99, 6.7.8): digits make a number, after those of n, a comma ends it, and all else is skipped
 abbrev pub read_words : ℕ → List ℕ → List ℕ
 read_words n [] = []
 read_words n (b ∷ bs) =
@@ -25,7 +25,7 @@ read_words n (b ∷ bs) =
 abbrev pub row_words : Machine → ℕ → List ℕ
 row_words m s = map (λ c. target_word m (class_target m s c)) (range_with_len 0 m.width) ++ (rule_word (accepted_by m s) ∷ [])
 
--- the words of all rows, one behind the other
+-- the words of all rows, one after the other
 abbrev pub rows_words : Machine → List ℕ
 rows_words m = map (λ c. 0) (range_with_len 0 (row_width m)) ++ flat_map (row_words m) (range_with_len 0 (state_count m))
 
@@ -38,7 +38,7 @@ pub record HaveTheWords (m : Machine) : Type 0 where
   pub rows : read_words 0 (rows_text m) ≡ rows_words m
   pub starts : read_words 0 (start_lines m) ≡ start_words m
 
--- the numbers between braces where a `-` may stand before one: of each whether it is negative, and its digits' number
+-- the numbers between braces, each after a `-` or none: true if it is negative, and its digits' number
 abbrev pub read_signed : Bool → ℕ → List ℕ → List (Bool × ℕ)
 read_signed minus n [] = []
 read_signed minus n (b ∷ bs) =
@@ -47,7 +47,7 @@ read_signed minus n (b ∷ bs) =
     else if b == 44 then (minus, n) ∷ read_signed false 0 bs
     else read_signed minus n bs
 
--- a step as a number with its sign, where the first kind has this number
+-- a step as a number with its sign, if the first kind has this number
 abbrev pub step_number : ℕ → Step → Bool × ℕ
 step_number first Echo = (true, 2)
 step_number first (Begin c) = (true, 4 + c)
@@ -61,19 +61,12 @@ action_number first (Return kind ∷ steps) = step_number first (Return kind)
 action_number first (Echo ∷ steps) = (true, 4)
 action_number first (Begin c ∷ steps) = (true, 4)
 
--- the number that the action of a rule gives, and 1 if the rule ends with `$`
-abbrev pub action_of : Table → ℕ → Bool × ℕ
-action_of table r = action_number (first_kind table) (rule_at table r).steps
-
-abbrev pub line_end_of : Table → ℕ → ℕ
-line_end_of table r = if (rule_at table r).line_end then 1 else 0
-
--- the numbers of the arrays of actions are those of the table's rules, in their order
+-- the numbers of the arrays of actions are those of the table's rules, in their order; and 1 for a rule that ends with `$`
 pub record HaveTheActions (o : Options) (table : Table) : Type 0 where
   pub steps : (r : ℕ) → r < length table.rules →
       read_signed false 0 (flat_map (step_entry o (first_kind table) table) (rule_at table r).steps ++ codes "-1};\n") ≡ map (step_number (first_kind table)) (rule_at table r).steps
-  pub actions : read_signed false 0 (action_entries o (first_kind table) table) ≡ map (action_of table) (range_with_len 0 (length table.rules))
-  pub line_ends : read_words 0 (line_end_entries table) ≡ map (line_end_of table) (range_with_len 0 (length table.rules))
+  pub actions : read_signed false 0 (action_entries o (first_kind table) table) ≡ map (λ r. action_number (first_kind table) (rule_at table r).steps) (range_with_len 0 (length table.rules))
+  pub line_ends : read_words 0 (line_end_entries table) ≡ map (λ r. if (rule_at table r).line_end then 1 else 0) (range_with_len 0 (length table.rules))
 
 -- Automata of one width whose arrays are printed alike are the same.
 pub record IsOneToOne : Type 0 where

@@ -1,5 +1,5 @@
--- The automaton as arrays of C. The array of rows begins with a row of zeros, and then has the row of each state: for each class of bytes where it steps, as the place
--- where that state's row begins, 0 for nowhere; and then the number of the rule that it accepts plus 1, or 0.
+-- The automaton as arrays of C. The array of rows begins with a row of zeros, and then has the row of each state: for each class of bytes the target of its
+-- step, as the place where that state's row begins, or 0; and then the number of the rule that it accepts plus 1, or 0.
 use Rattle.std.specs.Prelude.{ℕ, ◌==◌, not, nat_lt, Bool, true, false, if◌then◌else◌, List, ◌++◌, length, codes, slice_index}
 use Rattle.std.specs.List.{flat_map, list_any, range_with_len}
 use Rattle.lx_automaton.specs.Automata.{Machine, state_count, start_of, accepted_by, class_target}
@@ -7,7 +7,7 @@ use Rattle.lx_tables.specs.Model.{Table}
 use Rattle.lx_c.specs.Words.{row_width, row_of, target_word, rule_word, greatest_word}
 use Rattle.lx_c.specs.Options.{Options}
 use Rattle.lx_c.specs.Actions.{array_text}
-use Rattle.lx_c.specs.Templates.{filled, number_then}
+use Rattle.lx_c.specs.Templates.{either, filled, number_then, numbered}
 use Rattle.lx_c.specs.declared.templates.TheConstants.{WIDTH, CLASSES, ROWS, STARTS, LINE_BEGIN, NO_LINE_BEGIN}
 
 -- a number of an initializer, and its comma
@@ -55,15 +55,9 @@ starts_differ start = not (start.0 == start.1)
 
 -- true if a start condition has another start at line begin
 abbrev pub line_begin_text : Options → Table → List ℕ
-line_begin_text o table = if list_any starts_differ table.machine.starts then filled o.prefix LINE_BEGIN.now else filled o.prefix NO_LINE_BEGIN.now
-
-abbrev pub width_text : Options → Table → List ℕ
-width_text o table = filled o.prefix WIDTH.now ++ number_then table.machine.width (codes "\n")
-
-abbrev pub classes_text : Options → Table → List ℕ
-classes_text o table = array_text o CLASSES.now (class_entries table.machine)
+line_begin_text o table = either o (list_any starts_differ table.machine.starts) LINE_BEGIN.now NO_LINE_BEGIN.now
 
 abbrev pub automaton_text : Options → Table → List ℕ
 automaton_text o table =
-    line_begin_text o table ++ width_text o table ++ classes_text o table
+    line_begin_text o table ++ numbered o WIDTH.now table.machine.width (codes "\n") ++ array_text o CLASSES.now (class_entries table.machine)
     ++ word_array o table ROWS.now (rows_text table.machine) ++ word_array o table STARTS.now (start_lines table.machine)

@@ -1,4 +1,4 @@
--- The words of rows: a row has for each class of bytes where the state's step leads, as the place where that state's row begins, or 0; and then the number of the
+-- The words of rows: a row has for each class of bytes the target of the state's step, as the place where that state's row begins, or 0; and then the number of the
 -- rule that it accepts plus 1, or 0. The first row has no state.
 use Rattle.std.specs.Prelude.{ℕ, ◌+◌, ◌*◌, max, Option, Some, None, length}
 use Rattle.lx_automaton.specs.Automata.{Machine, state_count}

@@ -2,21 +2,20 @@
 
 ghost use Rattle.lx_c.specs.Actions as actions;
 ghost use Rattle.lx_c.specs.Numbers.{max_first_kind};
-ghost use Rattle.lx_c.specs.declared.templates.TheConstants.{ACTIONS, KINDS, LINE_ENDS, NAMES};
+ghost use Rattle.lx_c.specs.declared.templates.TheConstants.{ACTIONS};
 ghost use Rattle.lx_tables.specs.Model.{rule_at};
-ghost use Rattle.std.specs.List.{flat_map};
+ghost use Rattle.std.specs.List.{flat_map, list_any};
 ghost use Rattle.std.specs.Prelude.{OnOk, length, ◌++◌, ◌<◌, ◌≡◌, ◌≤◌};
 
 use crate::kind_name;
 use crate::options::Options;
-use crate::pushing::{push, push_filled, push_number, push_number_then};
+use crate::pushing::{PushResult, push, push_either, push_filled, push_number, push_number_then};
 use crate::templates::{
     ACTIONS, KINDS, LINE_END, LINE_ENDS, NAMES, NO_LINE_END, NOTHING_PENDING, PENDING, STEP_ARRAY,
     STEPS, STEPS_OF,
 };
 use lx_rules::rule::{Kind, Step};
 use lx_tables::Tables;
-use std::alloc::AllocError;
 
 // Returns true if an action is nothing or one return.
 fn is_simple(steps: &[Step]) -> bool
@@ -27,7 +26,7 @@ fn is_simple(steps: &[Step]) -> bool
 
 // Returns true if some rule ends with `$`.
 fn has_line_ends(tables: &Tables) -> bool
-    ensures { result ≡ actions.has_line_ends tables.now }
+    ensures { result ≡ list_any (λ rule. rule.line_end) tables.now.rules }
 {
     for rule in 0..tables.rules() {
         if tables.cut(rule) {
@@ -37,31 +36,13 @@ fn has_line_ends(tables: &Tables) -> bool
     false
 }
 
-fn push_kind_word(
-    text: &mut Vec<u8>,
-    options: &Options,
-    first: u64,
-    tables: &Tables,
-    place: u32,
-) -> Result<(), AllocError>
-    requires { first ≤ max_first_kind }
-    ensures { OnOk result
-        (text.new.items ≡ text.old.items ++ actions.kind_word options.now first tables.now place) }
-{
-    if options.has_include() {
-        push(text, kind_name(tables, place))
-    } else {
-        push_number(text, first + u64::from(place))
-    }
-}
-
 fn push_step_word(
     text: &mut Vec<u8>,
     options: &Options,
     first: u64,
     tables: &Tables,
     step: Step,
-) -> Result<(), AllocError>
+) -> PushResult
     requires { first ≤ max_first_kind }
     ensures { OnOk result
         (text.new.items ≡ text.old.items ++ actions.step_word options.now first tables.now step) }
@@ -72,7 +53,10 @@ fn push_step_word(
             push(text, b"-")?;
             push_number(text, 4 + u64::from(condition))
         }
-        Step::Return(Kind::Name(kind)) => push_kind_word(text, options, first, tables, kind),
+        Step::Return(Kind::Name(kind)) if options.has_include() => {
+            push(text, kind_name(tables, kind))
+        }
+        Step::Return(Kind::Name(kind)) => push_number(text, first + u64::from(kind)),
         Step::Return(Kind::Number(n)) => push_number(text, u64::from(n)),
     }
 }
@@ -83,7 +67,7 @@ fn push_step_entries(
     first: u64,
     tables: &Tables,
     steps: &[Step],
-) -> Result<(), AllocError>
+) -> PushResult
     requires { first ≤ max_first_kind }
     ensures { OnOk result (text.new.items ≡ text.old.items
         ++ flat_map (actions.step_entry options.now first tables.now) steps.now) }
@@ -102,7 +86,7 @@ fn push_steps_array(
     first: u64,
     tables: &Tables,
     rule: u16,
-) -> Result<(), AllocError>
+) -> PushResult
     requires first { first ≤ max_first_kind }
     requires rule { rule < length tables.now.rules }
     ensures { OnOk result (text.new.items
@@ -124,7 +108,7 @@ fn push_steps_arrays(
     options: &Options,
     first: u64,
     tables: &Tables,
-) -> Result<(), AllocError>
+) -> PushResult
     requires { first ≤ max_first_kind }
     ensures { OnOk result
         (text.new.items ≡ text.old.items ++ actions.steps_arrays options.now first tables.now) }
@@ -136,12 +120,7 @@ fn push_steps_arrays(
 }
 
 // Appends the place of the steps of a rule.
-fn push_steps_entry(
-    text: &mut Vec<u8>,
-    options: &Options,
-    rule: u16,
-    steps: &[Step],
-) -> Result<(), AllocError>
+fn push_steps_entry(text: &mut Vec<u8>, options: &Options, rule: u16, steps: &[Step]) -> PushResult
     ensures { OnOk result
         (text.new.items ≡ text.old.items ++ actions.steps_entry options.now rule steps.now) }
 {
@@ -152,7 +131,7 @@ fn push_steps_entry(
     push_number_then(text, u64::from(rule), b",\n")
 }
 
-fn push_steps(text: &mut Vec<u8>, options: &Options, tables: &Tables) -> Result<(), AllocError>
+fn push_steps(text: &mut Vec<u8>, options: &Options, tables: &Tables) -> PushResult
     ensures { OnOk result
         (text.new.items ≡ text.old.items ++ actions.steps_text options.now tables.now) }
 {
@@ -170,7 +149,7 @@ fn push_action_entry(
     first: u64,
     tables: &Tables,
     steps: &[Step],
-) -> Result<(), AllocError>
+) -> PushResult
     requires { first ≤ max_first_kind }
     ensures { OnOk result (text.new.items
         ≡ text.old.items ++ actions.action_entry options.now first tables.now steps.now) }
@@ -190,7 +169,7 @@ fn push_actions_array(
     options: &Options,
     first: u64,
     tables: &Tables,
-) -> Result<(), AllocError>
+) -> PushResult
     requires { first ≤ max_first_kind }
     ensures { OnOk result (text.new.items
         ≡ text.old.items ++ actions.array_text options.now ACTIONS.now
@@ -203,7 +182,7 @@ fn push_actions_array(
     push(text, b"0};\n")
 }
 
-fn push_line_end_entry(text: &mut Vec<u8>, line_end: bool) -> Result<(), AllocError>
+fn push_line_end_entry(text: &mut Vec<u8>, line_end: bool) -> PushResult
     ensures { OnOk result (text.new.items ≡ text.old.items ++ actions.line_end_entry line_end) }
 {
     if line_end {
@@ -213,23 +192,8 @@ fn push_line_end_entry(text: &mut Vec<u8>, line_end: bool) -> Result<(), AllocEr
     }
 }
 
-fn push_line_ends_array(
-    text: &mut Vec<u8>,
-    options: &Options,
-    tables: &Tables,
-) -> Result<(), AllocError>
-    ensures { OnOk result (text.new.items
-        ≡ text.old.items ++ actions.array_text options.now LINE_ENDS.now
-        (actions.line_end_entries tables.now)) }
-{
-    push_filled(text, options, LINE_ENDS)?;
-    for rule in 0..tables.rules() {
-        push_line_end_entry(text, tables.cut(rule))?;
-    }
-    push(text, b"0};\n")
-}
-
-fn push_line_ends(text: &mut Vec<u8>, options: &Options, tables: &Tables) -> Result<(), AllocError>
+// Appends what says which rules end with `$`.
+fn push_line_ends(text: &mut Vec<u8>, options: &Options, tables: &Tables) -> PushResult
     ensures { OnOk result
         (text.new.items ≡ text.old.items ++ actions.line_ends_text options.now tables.now) }
 {
@@ -237,11 +201,15 @@ fn push_line_ends(text: &mut Vec<u8>, options: &Options, tables: &Tables) -> Res
         return push_filled(text, options, NO_LINE_END);
     }
     push_filled(text, options, LINE_END)?;
-    push_line_ends_array(text, options, tables)
+    push_filled(text, options, LINE_ENDS)?;
+    for rule in 0..tables.rules() {
+        push_line_end_entry(text, tables.cut(rule))?;
+    }
+    push(text, b"0};\n")
 }
 
 fn has_echo(steps: &[Step]) -> bool
-    ensures { result ≡ actions.has_echo steps.now }
+    ensures { result ≡ list_any actions.is_echo steps.now }
 {
     for step in steps {
         if matches!(*step, Step::Echo) {
@@ -263,71 +231,43 @@ fn has_echoes(tables: &Tables) -> bool
     false
 }
 
-fn push_pending(text: &mut Vec<u8>, options: &Options, tables: &Tables) -> Result<(), AllocError>
+// Appends the entry of a kind: its name, between quotes or without.
+fn push_kind_entry(text: &mut Vec<u8>, quote: &[u8], kind: &[u8]) -> PushResult
     ensures { OnOk result
-        (text.new.items ≡ text.old.items ++ actions.pending_text options.now tables.now) }
+        (text.new.items ≡ text.old.items ++ actions.kind_entry quote.now kind.now) }
 {
-    if has_echoes(tables) {
-        push_filled(text, options, PENDING)
-    } else {
-        push_filled(text, options, NOTHING_PENDING)
-    }
-}
-
-fn push_name_entry(text: &mut Vec<u8>, kind: &[u8]) -> Result<(), AllocError>
-    ensures { OnOk result (text.new.items ≡ text.old.items ++ actions.name_entry kind.now) }
-{
-    push(text, b"\"")?;
+    push(text, quote)?;
     push(text, kind)?;
-    push(text, b"\",\n")
-}
-
-fn push_names(text: &mut Vec<u8>, options: &Options, tables: &Tables) -> Result<(), AllocError>
-    ensures { OnOk result (text.new.items
-        ≡ text.old.items ++ actions.array_text options.now NAMES.now
-        (actions.of_kinds tables.now actions.name_entry)) }
-{
-    push_filled(text, options, NAMES)?;
-    for place in 0..tables.kinds() {
-        push_name_entry(text, tables.kind(place))?;
-    }
-    push(text, b"0};\n")
-}
-
-fn push_kind_entry(text: &mut Vec<u8>, kind: &[u8]) -> Result<(), AllocError>
-    ensures { OnOk result (text.new.items ≡ text.old.items ++ actions.kind_entry kind.now) }
-{
-    push(text, kind)?;
+    push(text, quote)?;
     push(text, b",\n")
 }
 
-fn push_included_kinds(
+// Appends an array with an entry for each kind.
+fn push_kind_entries(
     text: &mut Vec<u8>,
     options: &Options,
     tables: &Tables,
-) -> Result<(), AllocError>
+    head: &[u8],
+    quote: &[u8],
+) -> PushResult
     ensures { OnOk result (text.new.items
-        ≡ text.old.items ++ actions.array_text options.now KINDS.now
-        (actions.of_kinds tables.now actions.kind_entry)) }
+        ≡ text.old.items ++ actions.array_text options.now head.now
+        (actions.kind_entries tables.now quote.now)) }
 {
-    push_filled(text, options, KINDS)?;
+    push_filled(text, options, head)?;
     for place in 0..tables.kinds() {
-        push_kind_entry(text, tables.kind(place))?;
+        push_kind_entry(text, quote, tables.kind(place))?;
     }
     push(text, b"0};\n")
 }
 
 // Appends the array of the kinds, if a file declares them.
-fn push_kinds_array(
-    text: &mut Vec<u8>,
-    options: &Options,
-    tables: &Tables,
-) -> Result<(), AllocError>
+fn push_kinds_array(text: &mut Vec<u8>, options: &Options, tables: &Tables) -> PushResult
     ensures { OnOk result (text.new.items
         ≡ text.old.items ++ actions.kinds_array options.now tables.now) }
 {
     if options.has_include() {
-        push_included_kinds(text, options, tables)
+        push_kind_entries(text, options, tables, KINDS, b"")
     } else {
         Ok(())
     }
@@ -339,7 +279,7 @@ pub(crate) fn push_actions(
     options: &Options,
     first: u64,
     tables: &Tables,
-) -> Result<(), AllocError>
+) -> PushResult
     requires { first ≤ max_first_kind }
     ensures { OnOk result
         (text.new.items ≡ text.old.items ++ actions.actions_from options.now first tables.now) }
@@ -348,7 +288,7 @@ pub(crate) fn push_actions(
     push_steps(text, options, tables)?;
     push_actions_array(text, options, first, tables)?;
     push_line_ends(text, options, tables)?;
-    push_pending(text, options, tables)?;
-    push_names(text, options, tables)?;
+    push_either(text, options, has_echoes(tables), PENDING, NOTHING_PENDING)?;
+    push_kind_entries(text, options, tables, NAMES, b"\"")?;
     push_kinds_array(text, options, tables)
 }

@@ -1,17 +1,16 @@
 //! The declarations of a scanner in C.
 
 ghost use Rattle.lx_c.specs.Declarations as declarations;
-ghost use Rattle.lx_c.specs.Kinds.{capital, capitals, name_in_c};
+ghost use Rattle.lx_c.specs.Kinds.{capitals, name_in_c};
 ghost use Rattle.lx_c.specs.Numbers.{max_first_kind};
 ghost use Rattle.std.specs.Prelude.{OnOk, length, ◌++◌, ◌<◌, ◌≡◌, ◌≤◌};
 
 use crate::options::Options;
-use crate::pushing::{push, push_filled, push_number, push_number_then};
+use crate::pushing::{PushResult, push, push_filled, push_number, push_number_then, push_numbered};
 use crate::templates::{CONDITIONS, FIRST_KIND, FUNCTIONS, GUARD, KINDS_END, SPECIAL_KINDS};
 use lx_tables::Tables;
-use std::alloc::AllocError;
 
-fn push_include(text: &mut Vec<u8>, options: &Options) -> Result<(), AllocError>
+fn push_include(text: &mut Vec<u8>, options: &Options) -> PushResult
     ensures { OnOk result
         (text.new.items ≡ text.old.items ++ declarations.include_text options.now.include) }
 {
@@ -23,31 +22,17 @@ fn push_include(text: &mut Vec<u8>, options: &Options) -> Result<(), AllocError>
     push(text, b"\"\n")
 }
 
-fn to_capital(letter: u8) -> u8
-    ensures { result ≡ capital letter }
-{
-    if b'a' <= letter && letter <= b'z' {
-        letter - 32
-    } else {
-        letter
-    }
-}
-
-fn push_capitals(text: &mut Vec<u8>, word: &[u8]) -> Result<(), AllocError>
+fn push_capitals(text: &mut Vec<u8>, word: &[u8]) -> PushResult
     ensures { OnOk result (text.new.items ≡ text.old.items ++ capitals word.now) }
 {
     for letter in word {
-        push(text, &[to_capital(*letter)])?;
+        push(text, &[letter.to_ascii_uppercase()])?;
     }
     Ok(())
 }
 
 /// Appends the name of a kind in C.
-pub(crate) fn push_name(
-    text: &mut Vec<u8>,
-    options: &Options,
-    kind: &[u8],
-) -> Result<(), AllocError>
+pub(crate) fn push_name(text: &mut Vec<u8>, options: &Options, kind: &[u8]) -> PushResult
     ensures { OnOk result (text.new.items ≡ text.old.items ++ name_in_c options.now kind.now) }
 {
     if options.has_include() {
@@ -64,7 +49,7 @@ fn push_kind_line(
     first: u64,
     kind: &[u8],
     place: u32,
-) -> Result<(), AllocError>
+) -> PushResult
     requires { first ≤ max_first_kind }
     ensures { OnOk result (text.new.items
         ≡ text.old.items ++ declarations.kind_line options.now first kind.now place) }
@@ -75,12 +60,7 @@ fn push_kind_line(
     push_number(text, first + u64::from(place))
 }
 
-fn push_kind_list(
-    text: &mut Vec<u8>,
-    options: &Options,
-    first: u64,
-    tables: &Tables,
-) -> Result<(), AllocError>
+fn push_kind_list(text: &mut Vec<u8>, options: &Options, first: u64, tables: &Tables) -> PushResult
     requires { first ≤ max_first_kind }
     ensures { OnOk result (text.new.items
         ≡ text.old.items ++ declarations.kind_list options.now first tables.now) }
@@ -91,57 +71,24 @@ fn push_kind_list(
     Ok(())
 }
 
-// Appends all kinds, if no file declares them.
-fn push_kind_lines(
-    text: &mut Vec<u8>,
-    options: &Options,
-    first: u64,
-    tables: &Tables,
-) -> Result<(), AllocError>
-    requires { first ≤ max_first_kind }
-    ensures { OnOk result (text.new.items
-        ≡ text.old.items ++ declarations.kind_lines options.now first tables.now) }
-{
-    if options.has_include() {
-        Ok(())
-    } else {
-        push_kind_list(text, options, first, tables)
-    }
-}
-
-// Appends the number of the first kind, if no file declares the kinds.
-fn push_first_kind(text: &mut Vec<u8>, options: &Options, first: u64) -> Result<(), AllocError>
-    ensures { OnOk result (text.new.items
-        ≡ text.old.items ++ declarations.first_kind_text options.now first) }
-{
-    if options.has_include() {
-        return Ok(());
-    }
-    push_filled(text, options, FIRST_KIND)?;
-    push_number_then(text, first, b"\n")
-}
-
-fn push_kinds(
-    text: &mut Vec<u8>,
-    options: &Options,
-    first: u64,
-    tables: &Tables,
-) -> Result<(), AllocError>
+// Appends the values of a token. The kinds, and the number of the first one, are among them if no
+// file declares the kinds.
+fn push_kinds(text: &mut Vec<u8>, options: &Options, first: u64, tables: &Tables) -> PushResult
     requires { first ≤ max_first_kind }
     ensures { OnOk result
         (text.new.items ≡ text.old.items ++ declarations.kinds_text options.now first tables.now) }
 {
     push_filled(text, options, SPECIAL_KINDS)?;
-    push_kind_lines(text, options, first, tables)?;
+    if options.has_include() {
+        return push_filled(text, options, KINDS_END);
+    }
+    push_kind_list(text, options, first, tables)?;
     push_filled(text, options, KINDS_END)?;
-    push_first_kind(text, options, first)
+    push_filled(text, options, FIRST_KIND)?;
+    push_number_then(text, first, b"\n")
 }
 
-fn push_condition_line(
-    text: &mut Vec<u8>,
-    options: &Options,
-    condition: usize,
-) -> Result<(), AllocError>
+fn push_condition_line(text: &mut Vec<u8>, options: &Options, condition: usize) -> PushResult
     requires { condition < length options.now.conditions }
     ensures { OnOk result
         (text.new.items ≡ text.old.items ++ declarations.condition_line options.now condition) }
@@ -154,7 +101,7 @@ fn push_condition_line(
     push_number_then(text, condition as u64, b"\n")
 }
 
-fn push_condition_lines(text: &mut Vec<u8>, options: &Options) -> Result<(), AllocError>
+fn push_condition_lines(text: &mut Vec<u8>, options: &Options) -> PushResult
     ensures { OnOk result
         (text.new.items ≡ text.old.items ++ declarations.condition_lines options.now) }
 {
@@ -164,25 +111,13 @@ fn push_condition_lines(text: &mut Vec<u8>, options: &Options) -> Result<(), All
     Ok(())
 }
 
-fn push_condition_count(
-    text: &mut Vec<u8>,
-    options: &Options,
-    tables: &Tables,
-) -> Result<(), AllocError>
-    ensures { OnOk result (text.new.items
-        ≡ text.old.items ++ declarations.conditions_text options.now tables.now) }
-{
-    push_filled(text, options, CONDITIONS)?;
-    push_number_then(text, u64::from(tables.conditions()), b"\n")
-}
-
 /// Appends the declarations; the first kind has the number `first`.
 pub(crate) fn push_header(
     text: &mut Vec<u8>,
     options: &Options,
     first: u64,
     tables: &Tables,
-) -> Result<(), AllocError>
+) -> PushResult
     requires { first ≤ max_first_kind }
     ensures { OnOk result
         (text.new.items ≡ text.old.items ++ declarations.header_from options.now first tables.now) }
@@ -190,7 +125,13 @@ pub(crate) fn push_header(
     push_filled(text, options, GUARD)?;
     push_include(text, options)?;
     push_kinds(text, options, first, tables)?;
-    push_condition_count(text, options, tables)?;
+    push_numbered(
+        text,
+        options,
+        CONDITIONS,
+        u32::from(tables.conditions()),
+        b"\n",
+    )?;
     push_condition_lines(text, options)?;
     push_filled(text, options, FUNCTIONS)
 }

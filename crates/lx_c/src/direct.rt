@@ -4,39 +4,30 @@ ghost use Rattle.lx_automaton.specs.Automata.{accepted_by, class_target, start_o
 ghost use Rattle.lx_c.specs.DirectCode as direct;
 ghost use Rattle.lx_c.specs.Words as rows;
 ghost use Rattle.std.specs.List.{list_any};
-ghost use Rattle.std.specs.Prelude.{IfSome, OnOk, Some, length, not, slice_index_or, ◌==◌, ◌++◌, ◌<◌, ◌≡◌, ◌≤◌};
+ghost use Rattle.std.specs.Prelude.{IfSome, OnOk, length, ◌++◌, ◌<◌, ◌≡◌, ◌≤◌};
 
 use crate::direct_templates::{
     AT_LINE_BEGIN, BACK, BEGIN_MATCH, BEGIN_STATES, BEHIND_LINE_END, END_MATCH, FIRST, GO,
     GOTO_RULE, GOTO_RULE_OF, GOTO_STATE, MARKS, MATCHED, MAY_BE_EMPTY, NEWLINE, NO_RULE,
     NONE_IS_EMPTY, OTHER, RULE_LABEL, SKIPPED, STATE_LABEL,
 };
-use crate::looping::{first_target, push_begin};
+use crate::looping::{first_target, push_loop_or_end};
 use crate::options::Options;
-use crate::pushing::{push, push_filled, push_number, push_number_then, push_numbered};
-use crate::rows::push_line_begin;
+use crate::pushing::{
+    PushResult, push, push_either, push_filled, push_number, push_number_then, push_numbered,
+};
+use crate::rows::has_line_begin;
 use crate::rule_word;
 use crate::stepping::{class_target, step_count, target_of};
+use crate::templates::{LINE_BEGIN, NO_LINE_BEGIN};
 use lx_tables::Tables;
-use std::alloc::AllocError;
-
-fn weight(tables: &Tables, state: u32, best: Option<u32>) -> u32
-    requires { state < state_count tables.now.machine }
-    ensures { result ≡ direct.weight tables.now.machine state best }
-{
-    match best {
-        // fewer than three steps to one state are tested one by one
-        None => 2,
-        Some(_) => step_count(tables, state, best),
-    }
-}
 
 // Returns the target of more steps; of two with as many, the first one.
-fn heavier(tables: &Tables, state: u32, best: Option<u32>, target: Option<u32>) -> Option<u32>
+fn better_target(tables: &Tables, state: u32, best: Option<u32>, target: Option<u32>) -> Option<u32>
     requires state { state < state_count tables.now.machine }
     requires best { IfSome best (λ t. t < state_count tables.now.machine) }
     requires target { IfSome target (λ t. t < state_count tables.now.machine) }
-    ensures heavier { result ≡ direct.heavier tables.now.machine state best target }
+    ensures better { result ≡ direct.better_target tables.now.machine state best target }
     ensures below { IfSome result (λ t. t < state_count tables.now.machine) }
 {
     let Some(other) = target else {
@@ -45,7 +36,12 @@ fn heavier(tables: &Tables, state: u32, best: Option<u32>, target: Option<u32>) 
     if other == state {
         return best;
     }
-    if weight(tables, state, best) < weight(tables, state, target) {
+    let most = match best {
+        // fewer than three steps to one state are tested one by one
+        None => 2,
+        Some(_) => step_count(tables, state, best),
+    };
+    if most < step_count(tables, state, target) {
         target
     } else {
         best
@@ -61,14 +57,14 @@ fn main_target(tables: &Tables, state: u32) -> Option<u32>
     let mut best = None;
     for class in 0..tables.classes() {
         let target = class_target(tables, state, class as u8);
-        best = heavier(tables, state, best, target);
+        best = better_target(tables, state, best, target);
     }
     best
 }
 
 // Returns the two bits that say what a state does on a byte.
-fn mark(tables: &Tables, state: u32, byte: u8) -> u64
-    ensures mark { result ≡ direct.mark tables.now.machine state byte }
+fn mark_of(tables: &Tables, state: u32, byte: u8) -> u64
+    ensures mark { result ≡ direct.mark_of tables.now.machine state byte }
     ensures small { result ≤ 2 }
 {
     if state >= tables.states() {
@@ -85,13 +81,13 @@ fn mark_byte(tables: &Tables, group: u32, byte: u8) -> u64
     requires { group ≤ direct.max_group }
     ensures { result ≡ direct.mark_byte tables.now.machine group byte }
 {
-    mark(tables, 4 * group, byte)
-        + 4 * mark(tables, 4 * group + 1, byte)
-        + 16 * mark(tables, 4 * group + 2, byte)
-        + 64 * mark(tables, 4 * group + 3, byte)
+    mark_of(tables, 4 * group, byte)
+        + 4 * mark_of(tables, 4 * group + 1, byte)
+        + 16 * mark_of(tables, 4 * group + 2, byte)
+        + 64 * mark_of(tables, 4 * group + 3, byte)
 }
 
-fn push_mark_line(text: &mut Vec<u8>, tables: &Tables, group: u32) -> Result<(), AllocError>
+fn push_mark_line(text: &mut Vec<u8>, tables: &Tables, group: u32) -> PushResult
     requires { group ≤ direct.max_group }
     ensures { OnOk result
         (text.new.items ≡ text.old.items ++ direct.mark_line tables.now.machine group) }
@@ -102,7 +98,7 @@ fn push_mark_line(text: &mut Vec<u8>, tables: &Tables, group: u32) -> Result<(),
     push(text, b"\n")
 }
 
-fn push_marks(text: &mut Vec<u8>, options: &Options, tables: &Tables) -> Result<(), AllocError>
+fn push_marks(text: &mut Vec<u8>, options: &Options, tables: &Tables) -> PushResult
     ensures { OnOk result
         (text.new.items ≡ text.old.items ++ direct.marks_text options.now tables.now) }
 {
@@ -113,50 +109,51 @@ fn push_marks(text: &mut Vec<u8>, options: &Options, tables: &Tables) -> Result<
     push(text, b"0};\n")
 }
 
-// Returns true if a condition starts in a state that accepts a rule.
-fn accepts_at_once(tables: &Tables, condition: u16) -> bool
-    requires { condition < length tables.now.machine.starts }
-    ensures { result ≡ direct.accepts_at_once tables.now.machine
-        (slice_index_or tables.now.machine.starts condition (0, 0)) }
-{
-    rule_word(tables, tables.start(condition, false).0) != 0
-        || rule_word(tables, tables.start(condition, true).0) != 0
-}
-
-// Returns true if some condition does, so that a match may be empty.
+// Returns true if a match may be empty: some condition starts in a state that accepts a rule.
 fn may_be_empty(tables: &Tables) -> bool
     ensures { result
         ≡ list_any (direct.accepts_at_once tables.now.machine) tables.now.machine.starts }
 {
     for condition in 0..tables.conditions() {
-        if accepts_at_once(tables, condition) {
+        if rule_word(tables, tables.start(condition, false).0) != 0
+            || rule_word(tables, tables.start(condition, true).0) != 0
+        {
             return true;
         }
     }
     false
 }
 
-/// Appends the marks of the states, whether line begins make a difference, and whether a match may be empty.
-pub(crate) fn push_marked(
+/// Appends the arrays and macros of code for each state: the marks of the states, if line begins make
+/// a difference, and if a match may be empty.
+pub(crate) fn push_direct_arrays(
     text: &mut Vec<u8>,
     options: &Options,
     tables: &Tables,
-) -> Result<(), AllocError>
+) -> PushResult
     ensures { OnOk result
-        (text.new.items ≡ text.old.items ++ direct.marked_text options.now tables.now) }
+        (text.new.items ≡ text.old.items ++ direct.direct_arrays_text options.now tables.now) }
 {
-    push_line_begin(text, options, tables)?;
-    if may_be_empty(tables) {
-        push_filled(text, options, MAY_BE_EMPTY)?;
-    } else {
-        push_filled(text, options, NONE_IS_EMPTY)?;
-    }
+    push_either(
+        text,
+        options,
+        has_line_begin(tables),
+        LINE_BEGIN,
+        NO_LINE_BEGIN,
+    )?;
+    push_either(
+        text,
+        options,
+        may_be_empty(tables),
+        MAY_BE_EMPTY,
+        NONE_IS_EMPTY,
+    )?;
     push_marks(text, options, tables)
 }
 
 // Appends what keeps a place: the one before a step to a state that accepts no rule.
-fn push_keep(text: &mut Vec<u8>, before: u32, after: u32) -> Result<(), AllocError>
-    ensures { OnOk result (text.new.items ≡ text.old.items ++ direct.keep_text before after) }
+fn push_place(text: &mut Vec<u8>, before: u32, after: u32) -> PushResult
+    ensures { OnOk result (text.new.items ≡ text.old.items ++ direct.place_text before after) }
 {
     if before == 0 {
         return Ok(());
@@ -174,18 +171,18 @@ fn push_edge(
     tables: &Tables,
     state: u32,
     target: u32,
-) -> Result<(), AllocError>
+) -> PushResult
     requires state { state < state_count tables.now.machine }
     requires target { target < state_count tables.now.machine }
     ensures { OnOk result (text.new.items
         ≡ text.old.items ++ direct.edge_text options.now tables.now.machine state target) }
 {
-    push_keep(text, rule_word(tables, state), rule_word(tables, target))?;
+    push_place(text, rule_word(tables, state), rule_word(tables, target))?;
     push_numbered(text, options, GO, target, b")\n")
 }
 
 // Appends `case BYTE: ` if a byte is one of a class.
-fn push_case(text: &mut Vec<u8>, tables: &Tables, class: u8, byte: u8) -> Result<(), AllocError>
+fn push_case(text: &mut Vec<u8>, tables: &Tables, class: u8, byte: u8) -> PushResult
     ensures { OnOk result
         (text.new.items ≡ text.old.items ++ direct.case_text tables.now.machine class byte) }
 {
@@ -196,7 +193,7 @@ fn push_case(text: &mut Vec<u8>, tables: &Tables, class: u8, byte: u8) -> Result
     Ok(())
 }
 
-fn push_cases(text: &mut Vec<u8>, tables: &Tables, class: u8) -> Result<(), AllocError>
+fn push_cases(text: &mut Vec<u8>, tables: &Tables, class: u8) -> PushResult
     ensures { OnOk result
         (text.new.items ≡ text.old.items ++ direct.case_texts tables.now.machine class) }
 {
@@ -207,12 +204,7 @@ fn push_cases(text: &mut Vec<u8>, tables: &Tables, class: u8) -> Result<(), Allo
 }
 
 // Appends that a step may be one on a newline.
-fn push_newline(
-    text: &mut Vec<u8>,
-    options: &Options,
-    tables: &Tables,
-    class: u8,
-) -> Result<(), AllocError>
+fn push_newline(text: &mut Vec<u8>, options: &Options, tables: &Tables, class: u8) -> PushResult
     ensures { OnOk result (text.new.items
         ≡ text.old.items ++ direct.newline_text options.now tables.now.machine class) }
 {
@@ -230,7 +222,7 @@ fn push_step(
     state: u32,
     class: u8,
     target: u32,
-) -> Result<(), AllocError>
+) -> PushResult
     requires state { state < state_count tables.now.machine }
     requires target { target < state_count tables.now.machine }
     ensures { OnOk result (text.new.items ≡ text.old.items
@@ -241,61 +233,7 @@ fn push_step(
     push_edge(text, options, tables, state, target)
 }
 
-// Returns true if a state is the wanted one, if one is.
-fn is_it(wanted: Option<u32>, state: u32) -> bool
-    ensures { result ≡ direct.is_it wanted state }
-{
-    match wanted {
-        None => false,
-        Some(wanted) => state == wanted,
-    }
-}
-
-// Appends a step, unless it leads to the state itself or to the main target.
-fn push_step_if(
-    text: &mut Vec<u8>,
-    options: &Options,
-    tables: &Tables,
-    state: u32,
-    main: Option<u32>,
-    class: u8,
-    target: u32,
-) -> Result<(), AllocError>
-    requires state { state < state_count tables.now.machine }
-    requires target { target < state_count tables.now.machine }
-    ensures { OnOk result (text.new.items ≡ text.old.items
-        ++ direct.class_code options.now tables.now.machine state main class (Some target)) }
-{
-    if is_it(Some(state), target) {
-        return Ok(());
-    }
-    if is_it(main, target) {
-        Ok(())
-    } else {
-        push_step(text, options, tables, state, class, target)
-    }
-}
-
-fn push_class_code(
-    text: &mut Vec<u8>,
-    options: &Options,
-    tables: &Tables,
-    state: u32,
-    main: Option<u32>,
-    class: u8,
-    target: Option<u32>,
-) -> Result<(), AllocError>
-    requires state { state < state_count tables.now.machine }
-    requires target { IfSome target (λ t. t < state_count tables.now.machine) }
-    ensures { OnOk result (text.new.items ≡ text.old.items
-        ++ direct.class_code options.now tables.now.machine state main class target) }
-{
-    match target {
-        None => Ok(()),
-        Some(target) => push_step_if(text, options, tables, state, main, class, target),
-    }
-}
-
+// Appends the step on a class, unless it leads to the state itself or to the main target.
 fn push_class(
     text: &mut Vec<u8>,
     options: &Options,
@@ -303,15 +241,23 @@ fn push_class(
     state: u32,
     main: Option<u32>,
     class: u8,
-) -> Result<(), AllocError>
+) -> PushResult
     requires state { state < state_count tables.now.machine }
     requires class { class < tables.now.machine.width }
     ensures { OnOk result (text.new.items ≡ text.old.items
         ++ direct.class_code options.now tables.now.machine state main class
         (class_target tables.now.machine state class)) }
 {
-    let target = class_target(tables, state, class);
-    push_class_code(text, options, tables, state, main, class, target)
+    let Some(target) = class_target(tables, state, class) else {
+        return Ok(());
+    };
+    if target == state {
+        return Ok(());
+    }
+    if main == Some(target) {
+        return Ok(());
+    }
+    push_step(text, options, tables, state, class, target)
 }
 
 fn push_classes(
@@ -320,7 +266,7 @@ fn push_classes(
     tables: &Tables,
     state: u32,
     main: Option<u32>,
-) -> Result<(), AllocError>
+) -> PushResult
     requires { state < state_count tables.now.machine }
     ensures { OnOk result (text.new.items
         ≡ text.old.items ++ direct.class_codes options.now tables.now.machine state main) }
@@ -332,13 +278,13 @@ fn push_classes(
 }
 
 // Appends the steps to the main target.
-fn push_main(
+fn push_main_step(
     text: &mut Vec<u8>,
     options: &Options,
     tables: &Tables,
     state: u32,
     main: Option<u32>,
-) -> Result<(), AllocError>
+) -> PushResult
     requires state { state < state_count tables.now.machine }
     requires main { IfSome main (λ t. t < state_count tables.now.machine) }
     ensures { OnOk result (text.new.items
@@ -354,100 +300,52 @@ fn push_main(
     }
 }
 
-fn push_first_of(
-    text: &mut Vec<u8>,
-    options: &Options,
-    tables: &Tables,
-    state: u32,
-    target: u32,
-) -> Result<(), AllocError>
-    requires state { state < state_count tables.now.machine }
-    requires target { target < state_count tables.now.machine }
+// Appends the step that is tested before all others, if there is one.
+fn push_first_step(text: &mut Vec<u8>, options: &Options, tables: &Tables, state: u32) -> PushResult
+    requires { state < state_count tables.now.machine }
     ensures { OnOk result (text.new.items ≡ text.old.items
-        ++ direct.first_code options.now tables.now.machine state (Some target)) }
+        ++ direct.first_code options.now tables.now.machine state
+        (direct.first_target tables.now.machine state)) }
 {
-    push_numbered(text, options, FIRST, target, b", *p, 1)) { ")?;
-    push_edge(text, options, tables, state, target)?;
-    push(text, b"}\n")
-}
-
-// Appends the step that is asked for before all others, if there is one.
-fn push_first(
-    text: &mut Vec<u8>,
-    options: &Options,
-    tables: &Tables,
-    state: u32,
-    target: Option<u32>,
-) -> Result<(), AllocError>
-    requires state { state < state_count tables.now.machine }
-    requires target { IfSome target (λ t. t < state_count tables.now.machine) }
-    ensures { OnOk result (text.new.items
-        ≡ text.old.items ++ direct.first_code options.now tables.now.machine state target) }
-{
-    match target {
+    match first_target(tables, state) {
         None => Ok(()),
-        Some(target) => push_first_of(text, options, tables, state, target),
+        Some(target) => {
+            push_numbered(text, options, FIRST, target, b", *p, 1)) { ")?;
+            push_edge(text, options, tables, state, target)?;
+            push(text, b"}\n")
+        }
     }
-}
-
-fn push_steps(
-    text: &mut Vec<u8>,
-    options: &Options,
-    tables: &Tables,
-    state: u32,
-    main: Option<u32>,
-) -> Result<(), AllocError>
-    requires state { state < state_count tables.now.machine }
-    requires main { IfSome main (λ t. t < state_count tables.now.machine) }
-    ensures { OnOk result (text.new.items
-        ≡ text.old.items ++ direct.steps_code options.now tables.now.machine state main) }
-{
-    push_begin(text, options, tables, state)?;
-    push_first(text, options, tables, state, first_target(tables, state))?;
-    push(text, b"switch (*p) {\n")?;
-    push_classes(text, options, tables, state, main)?;
-    push_main(text, options, tables, state, main)
 }
 
 // Appends all steps of a state, if it has any.
-fn push_body(
-    text: &mut Vec<u8>,
-    options: &Options,
-    tables: &Tables,
-    state: u32,
-) -> Result<(), AllocError>
+fn push_steps(text: &mut Vec<u8>, options: &Options, tables: &Tables, state: u32) -> PushResult
     requires { state < state_count tables.now.machine }
     ensures { OnOk result (text.new.items
-        ≡ text.old.items ++ direct.body_code options.now tables.now.machine state) }
+        ≡ text.old.items ++ direct.steps_code options.now tables.now.machine state) }
 {
     if step_count(tables, state, None) == 0 {
-        Ok(())
-    } else {
-        push_steps(text, options, tables, state, main_target(tables, state))
+        return Ok(());
     }
+    let main = main_target(tables, state);
+    push_loop_or_end(text, options, tables, state)?;
+    push_first_step(text, options, tables, state)?;
+    push(text, b"switch (*p) {\n")?;
+    push_classes(text, options, tables, state, main)?;
+    push_main_step(text, options, tables, state, main)
 }
 
-fn push_state(
-    text: &mut Vec<u8>,
-    options: &Options,
-    tables: &Tables,
-    state: u32,
-) -> Result<(), AllocError>
+fn push_state(text: &mut Vec<u8>, options: &Options, tables: &Tables, state: u32) -> PushResult
     requires { state < state_count tables.now.machine }
     ensures { OnOk result (text.new.items
         ≡ text.old.items ++ direct.state_code options.now tables.now.machine state) }
 {
     push_numbered(text, options, STATE_LABEL, state, b":\n")?;
-    push_body(text, options, tables, state)?;
+    push_steps(text, options, tables, state)?;
     push_numbered(text, options, GOTO_RULE, rule_word(tables, state), b";")?;
     push_numbered(text, options, GOTO_STATE, state, b";\n")
 }
 
-fn push_state_codes(
-    text: &mut Vec<u8>,
-    options: &Options,
-    tables: &Tables,
-) -> Result<(), AllocError>
+fn push_state_codes(text: &mut Vec<u8>, options: &Options, tables: &Tables) -> PushResult
     ensures { OnOk result
         (text.new.items ≡ text.old.items ++ direct.state_codes options.now tables.now.machine) }
 {
@@ -457,14 +355,14 @@ fn push_state_codes(
     Ok(())
 }
 
-// Appends where a condition starts, by a test for line begin.
+// Appends the start of a condition, by a test for line begin.
 fn push_start(
     text: &mut Vec<u8>,
     options: &Options,
     test: &[u8],
     tables: &Tables,
     condition: u16,
-) -> Result<(), AllocError>
+) -> PushResult
     requires { condition < length tables.now.machine.starts }
     ensures { OnOk result (text.new.items ≡ text.old.items
         ++ direct.start_code options.now test.now tables.now.machine condition) }
@@ -481,12 +379,7 @@ fn push_start(
     )
 }
 
-fn push_starts(
-    text: &mut Vec<u8>,
-    options: &Options,
-    test: &[u8],
-    tables: &Tables,
-) -> Result<(), AllocError>
+fn push_starts(text: &mut Vec<u8>, options: &Options, test: &[u8], tables: &Tables) -> PushResult
     ensures { OnOk result (text.new.items
         ≡ text.old.items ++ direct.start_codes options.now test.now tables.now.machine) }
 {
@@ -496,44 +389,32 @@ fn push_starts(
     Ok(())
 }
 
-fn push_rule_case(text: &mut Vec<u8>, options: &Options, rule: u16) -> Result<(), AllocError>
-    ensures { OnOk result (text.new.items ≡ text.old.items ++ direct.rule_case options.now rule) }
-{
-    let word = u32::from(rule) + 1;
-    push(text, b"case ")?;
-    push_number(text, u64::from(word))?;
-    push_numbered(text, options, GOTO_RULE_OF, word, b";\n")
-}
-
-fn push_rule_cases(text: &mut Vec<u8>, options: &Options, tables: &Tables) -> Result<(), AllocError>
+fn push_rule_cases(text: &mut Vec<u8>, options: &Options, tables: &Tables) -> PushResult
     ensures { OnOk result
         (text.new.items ≡ text.old.items ++ direct.rule_cases options.now tables.now) }
 {
     for rule in 0..tables.rules() {
-        push_rule_case(text, options, rule)?;
+        let word = u32::from(rule) + 1;
+        push(text, b"case ")?;
+        push_number(text, u64::from(word))?;
+        push_numbered(text, options, GOTO_RULE_OF, word, b";\n")?;
     }
     Ok(())
 }
 
-fn push_rule_code(text: &mut Vec<u8>, options: &Options, rule: u16) -> Result<(), AllocError>
-    ensures { OnOk result (text.new.items ≡ text.old.items ++ direct.rule_code options.now rule) }
-{
-    let word = u32::from(rule) + 1;
-    push_numbered(text, options, RULE_LABEL, word, b":\n")?;
-    push_numbered(text, options, MATCHED, word, b")\n")
-}
-
-fn push_rule_codes(text: &mut Vec<u8>, options: &Options, tables: &Tables) -> Result<(), AllocError>
+fn push_rule_codes(text: &mut Vec<u8>, options: &Options, tables: &Tables) -> PushResult
     ensures { OnOk result
         (text.new.items ≡ text.old.items ++ direct.rule_codes options.now tables.now) }
 {
     for rule in 0..tables.rules() {
-        push_rule_code(text, options, rule)?;
+        let word = u32::from(rule) + 1;
+        push_numbered(text, options, RULE_LABEL, word, b":\n")?;
+        push_numbered(text, options, MATCHED, word, b")\n")?;
     }
     Ok(())
 }
 
-fn push_states(text: &mut Vec<u8>, options: &Options, tables: &Tables) -> Result<(), AllocError>
+fn push_states(text: &mut Vec<u8>, options: &Options, tables: &Tables) -> PushResult
     ensures { OnOk result
         (text.new.items ≡ text.old.items ++ direct.states_text options.now tables.now.machine) }
 {
@@ -543,7 +424,7 @@ fn push_states(text: &mut Vec<u8>, options: &Options, tables: &Tables) -> Result
     push_state_codes(text, options, tables)
 }
 
-fn push_rules(text: &mut Vec<u8>, options: &Options, tables: &Tables) -> Result<(), AllocError>
+fn push_rules(text: &mut Vec<u8>, options: &Options, tables: &Tables) -> PushResult
     ensures { OnOk result
         (text.new.items ≡ text.old.items ++ direct.rules_text options.now tables.now) }
 {
@@ -554,24 +435,13 @@ fn push_rules(text: &mut Vec<u8>, options: &Options, tables: &Tables) -> Result<
     push_filled(text, options, SKIPPED)
 }
 
-fn push_ends(text: &mut Vec<u8>, options: &Options, tables: &Tables) -> Result<(), AllocError>
-    ensures { OnOk result (text.new.items
-        ≡ text.old.items ++ direct.ends_text options.now tables.now.machine) }
-{
-    push_starts(text, options, BEHIND_LINE_END, tables)?;
-    push_filled(text, options, END_MATCH)
-}
-
 /// Appends what looks for the next match.
-pub(crate) fn push_direct(
-    text: &mut Vec<u8>,
-    options: &Options,
-    tables: &Tables,
-) -> Result<(), AllocError>
+pub(crate) fn push_direct_walk(text: &mut Vec<u8>, options: &Options, tables: &Tables) -> PushResult
     ensures { OnOk result
-        (text.new.items ≡ text.old.items ++ direct.direct_text options.now tables.now) }
+        (text.new.items ≡ text.old.items ++ direct.direct_walk_text options.now tables.now) }
 {
     push_states(text, options, tables)?;
     push_rules(text, options, tables)?;
-    push_ends(text, options, tables)
+    push_starts(text, options, BEHIND_LINE_END, tables)?;
+    push_filled(text, options, END_MATCH)
 }

@@ -13,7 +13,7 @@ pub(crate) const MARKS: &[u8] = br#"static const unsigned char @__mark[] = {
 pub(crate) const MAY_BE_EMPTY: &[u8] = br#"#define @__EMPTY 1
 "#;
 
-/// The same where no start accepts a rule.
+/// The same if no start accepts a rule.
 pub(crate) const NONE_IS_EMPTY: &[u8] = br#"#define @__EMPTY 0
 "#;
 
@@ -125,42 +125,44 @@ pub(crate) const BEGIN_MATCH: &[u8] = br#"    (void)@__mark;
 /// Between the number of a condition and that of the state in which it starts at line begin.
 pub(crate) const AT_LINE_BEGIN: &[u8] = br#": if (at_line_begin) goto @__s"#;
 
-/// The same behind a match that is skipped.
+/// The same after a match that is skipped.
 pub(crate) const BEHIND_LINE_END: &[u8] = br#": if (@__BEGIN(p[-1] == 10)) goto @__s"#;
 
-/// Behind it the number of a state stands.
+/// The number of a state comes after it.
 pub(crate) const GOTO_STATE: &[u8] = br#" goto @__s"#;
 
-/// Between the starts and the states. So that no label lacks a use, which compilers warn of, some jumps stand where none comes by.
+/// Between the starts and the states. It has jumps that are never reached: compilers warn of a label
+/// without a use.
 pub(crate) const BEGIN_STATES: &[u8] = br#"        }
         goto @__a0;
 "#;
 
-/// The label of a state; its number stands behind.
+/// The label of a state; its number comes after it.
 pub(crate) const STATE_LABEL: &[u8] = br#"@__s"#;
 
 /// The loop of a state by the marks; its number follows.
 pub(crate) const LOOP: &[u8] = br#"@__LOOP("#;
 
-/// The same by ranges of bytes, which stand behind the number.
+/// The same by ranges of bytes, which come after the number.
 pub(crate) const RANGES: &[u8] = br#"@__RANGES("#;
 
 /// Between that and the number of the rule plus 1, or 0, that the state accepts.
 pub(crate) const LOOP_RULE: &[u8] = br#", @__a"#;
 
-/// A state that doesn't step to itself; the number of its rule plus 1, or 0, stands behind.
+/// A state that doesn't step to itself; the number of its rule plus 1, or 0, comes after it.
 pub(crate) const AT_END: &[u8] = br#"if (p == end) @__AT_END(@__a"#;
 
-/// The step to a state that steps to itself on the same bytes, before all others; its number stands behind.
+/// The step to a state that steps to itself on the same bytes, before all others; that state's number
+/// comes after it.
 pub(crate) const FIRST: &[u8] = br#"if (@__STEPS("#;
 
 /// The code before a step that may be one on a newline.
 pub(crate) const NEWLINE: &[u8] = br#"@__LINES(newline = 1;) "#;
 
-/// A step; the number of the state to which it leads stands behind.
+/// A step; the number of its target comes after it.
 pub(crate) const GO: &[u8] = br#"@__GO(@__s"#;
 
-/// The steps to the state to which most lead; the number of that from which they lead stands behind.
+/// The steps to the state to which most lead; the number of the state that they leave comes after it.
 pub(crate) const OTHER: &[u8] = br#"default: @__OTHER("#;
 
 /// The code for a missing step; the number of the state's rule plus 1, or 0, follows.
@@ -175,12 +177,12 @@ pub(crate) const BACK: &[u8] = br#"@__a0:
 /// Between the number of a rule plus 1 and this number again.
 pub(crate) const GOTO_RULE_OF: &[u8] = br#": goto @__a"#;
 
-/// The same where no rule was accepted.
+/// The same if no rule was accepted.
 pub(crate) const NO_RULE: &[u8] = br#"        default: @__MATCHED(0)
         }
 "#;
 
-/// The label of a rule; its number plus 1 stands behind.
+/// The label of a rule; its number plus 1 comes after it.
 pub(crate) const RULE_LABEL: &[u8] = br#"@__a"#;
 
 /// The code for a match of a rule; its number plus 1 follows.

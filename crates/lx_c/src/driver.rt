@@ -1,4 +1,5 @@
-//! The driver: the calls of a scanner, the same for all tables, with `@` for the prefix. What looks for the next match differs by the form.
+//! The driver: the calls of a scanner, the same for all tables, with `@` for the prefix. The search for
+//! the next match differs by the form.
 
 /// The functions that the calls use.
 pub(crate) const HELPERS: &[u8] = br#"
@@ -34,7 +35,7 @@ static int @__has_step(size_t state)
 
 "#;
 
-/// The calls up to where the next match is looked for.
+/// The calls before the search for the next match.
 pub(crate) const CALLS: &[u8] = br#"#ifndef @__NO_LINES
 /* Line and start of line behind these bytes. */
 static void @__count(@_scanner *s, const unsigned char *from, const unsigned char *to)

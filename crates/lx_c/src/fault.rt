@@ -9,7 +9,7 @@ use thiserror::Error;
 /// A fault of options.
 #[derive(Debug, Clone, Copy, PartialEq, Eq, Error)]
 pub enum OptionFault {
-    /// The prefix is no small letter with up to 31 small letters, digits or `_` behind it.
+    /// The prefix isn't a small letter, and then up to 31 small letters, digits or `_`.
     #[error("a prefix is a small letter, and then up to 31 small letters, digits or _")]
     Prefix,
     /// The name of a start condition is no identifier.
@@ -32,7 +32,8 @@ pub enum KindFault {
     /// The kind with this number would be declared twice, as the scanner's own names begin so.
     #[error("kind {0} would be declared twice")]
     Declared(u32),
-    /// The tables have so many states, which is more than [`MAX_DIRECT_STATES`](crate::MAX_DIRECT_STATES), and code for each is asked for.
+    /// Code for each state is asked for, and the tables have this number of states, which is more
+    /// than [`MAX_DIRECT_STATES`](crate::MAX_DIRECT_STATES).
     #[error("E41")]
     States(u32),
     /// Memory was refused.

@@ -13,7 +13,7 @@ use crate::words::WORDS;
 use lx_tables::Tables;
 use std::alloc::{AllocError, Global};
 
-/// The most states of which code for each is printed; above it is E41.
+/// The most states of which code for each is printed; more are E41.
 pub const MAX_DIRECT_STATES: u32 = 1000;
 
 fn has_part(text: &[u8], part: &[u8]) -> bool
@@ -36,18 +36,13 @@ fn is_spaced_word(spaced: &[u8]) -> bool
     has_part(WORDS, spaced)
 }
 
-// Returns true if a name begins with the prefix and `_`.
-fn begins_as_own(prefix: &[u8], name: &[u8]) -> bool
-    ensures { result ≡ kinds.begins_as_own prefix.now name.now }
-{
-    name.starts_with(prefix) && (prefix.len() < name.len() && name[prefix.len()] == b'_')
-}
-
 // Returns true if the scanner may need the name of the kind for itself.
 fn is_own(options: &Options, kind: &[u8]) -> bool
     ensures { result ≡ kinds.is_own options.now kind.now }
 {
-    options.has_include() && begins_as_own(options.prefix(), kind)
+    let prefix = options.prefix();
+    options.has_include()
+        && (kind.starts_with(prefix) && (prefix.len() < kind.len() && kind[prefix.len()] == b'_'))
 }
 
 // Returns the name of a kind in C, with a blank on both sides.
@@ -106,9 +101,11 @@ fn pass_the_limit(tables: &Tables, options: &Options) -> bool
     first_kind(tables) + u64::from(tables.kinds().saturating_sub(1)) > 2_147_483_647
 }
 
-/// Judges whether a scanner in C can be printed of the tables under these options: where it is code for each state, there are at most 1,000 (else
-/// [`KindFault::States`], E41); the numbers of the kinds are below 2,147,483,648 (else [`KindFault::Numbers`], E40); and no name of a kind is a word of C or C++, or
-/// one that the scanner declares for itself. Of several faults it gives the first one. Want of memory is a fault too.
+/// Judges if a scanner in C can be printed of the tables under these options. Err: the first fault.
+/// It is [`KindFault::States`] (E41) if code is asked for more than 1,000 states,
+/// [`KindFault::Numbers`] (E40) if the number of a kind is 2,147,483,648 or more, and else that of
+/// the first kind whose name is a word of C or C++, or one that the scanner declares for itself.
+/// Memory that was refused is a fault too.
 pub fn judge(alloc: Global, tables: &Tables, options: &Options) -> Result<(), KindFault>
     ensures ok { IfOk result (λ done. kinds.kind_fault options.now tables.now ≡ None) }
     ensures err { IfErr result (λ fault.

@@ -8,8 +8,8 @@ ghost use Rattle.lx_c.specs.Numbers.{max_first_kind};
 use lx_rules::rule::{Kind, Step};
 use lx_tables::Tables;
 
-/// The number, or one more than what the step returns.
-fn above_step(number: u64, step: Step) -> u64
+// Returns the number, or one more than what the step returns.
+fn number_above_step(number: u64, step: Step) -> u64
     requires { number ≤ max_first_kind }
     ensures number { result ≡ kinds.above number (kinds.returned_number step) }
     ensures small { result ≤ max_first_kind }
@@ -20,32 +20,32 @@ fn above_step(number: u64, step: Step) -> u64
     }
 }
 
-/// The number, or one more than the greatest that the steps return.
-fn above_steps(number: u64, steps: &[Step]) -> u64
+// Returns the number, or one more than the greatest that the steps return.
+fn number_above_steps(number: u64, steps: &[Step]) -> u64
     requires { number ≤ max_first_kind }
     ensures number { result ≡ kinds.above number (kinds.returned_by steps.now) }
     ensures small { result ≤ max_first_kind }
 {
     let mut first = number;
     for step in steps {
-        first = above_step(first, *step);
+        first = number_above_step(first, *step);
     }
     first
 }
 
-/// The number of the first kind: 256, or one more than the greatest number that an action returns.
+/// Returns the number of the first kind: 256, or one more than the greatest that an action returns.
 pub fn first_kind(tables: &Tables) -> u64
     ensures number { result ≡ kinds.first_kind tables.now }
     ensures small { result ≤ max_first_kind }
 {
     let mut first = 256;
     for rule in 0..tables.rules() {
-        first = above_steps(first, tables.steps(rule));
+        first = number_above_steps(first, tables.steps(rule));
     }
     first
 }
 
-/// The name of the kind with this number; where there is none, nothing.
+/// Returns the name of the kind with this number, or nothing if there is none.
 pub fn kind_name(tables: &Tables, kind: u32) -> &[u8]
     ensures { result.now ≡ kind_at tables.now kind }
 {

@@ -7,7 +7,8 @@ ghost use Rattle.lx_c.specs.Numbers.{AreApart};
 ghost use Rattle.lx_c.specs.Options.{Options};
 ghost use Rattle.lx_c.specs.Reading.{HaveTheWords, HaveTheActions, IsOneToOne};
 
-/// A law: the numbers between the braces of the arrays of the automaton are its classes, rows and starts, in their order.
+/// A law: the numbers between the braces of the arrays of the automaton are its classes, rows and
+/// starts, in their order.
 pub fn arrays_have_the_words()
     ensures { (m : Machine) → IsMachine m → HaveTheWords m }
 {}
@@ -17,7 +18,8 @@ pub fn arrays_are_one_to_one()
     ensures { IsOneToOne }
 {}
 
-/// A law: where no file declares the kinds, the numbers between the braces of the arrays of actions are what the steps of the rules say.
+/// A law: if no file declares the kinds, the numbers between the braces of the arrays of actions
+/// are what the steps of the rules say.
 pub fn arrays_have_the_actions()
     ensures { (o : Options) (table : Table) → IsTable table → o.include ≡ None
         → HaveTheActions o table }

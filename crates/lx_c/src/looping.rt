@@ -1,17 +1,16 @@
-//! The loop of a state, and the step that is asked for before all others.
+//! The loop of a state, and the step that is tested before all others.
 
 ghost use Rattle.lx_automaton.specs.Automata.{state_count};
 ghost use Rattle.lx_c.specs.DirectCode as direct;
 ghost use Rattle.std.specs.List.{list_any};
-ghost use Rattle.std.specs.Prelude.{IfSome, OnOk, length, slice_index_or, ◌++◌, ◌<◌, ◌≡◌};
+ghost use Rattle.std.specs.Prelude.{IfSome, OnOk, ◌++◌, ◌<◌, ◌≡◌};
 
 use crate::direct_templates::{AT_END, LOOP, LOOP_RULE, RANGES};
 use crate::options::Options;
-use crate::pushing::{push, push_number, push_number_then, push_numbered};
+use crate::pushing::{PushResult, push, push_number, push_number_then, push_numbered};
 use crate::rule_word;
-use crate::stepping::{class_target, leads, one_if, step_count, target_of};
+use crate::stepping::{class_target, leads, step_count, target_of};
 use lx_tables::Tables;
-use std::alloc::AllocError;
 
 // Returns true if a state steps to itself on a byte; if `staying` is false, true if it doesn't.
 fn stays(tables: &Tables, state: u32, staying: bool, byte: u16) -> bool
@@ -48,22 +47,22 @@ fn range_count(tables: &Tables, state: u32, staying: bool) -> u32
 {
     let mut count: u32 = 0;
     for byte in 0..256 {
-        count += one_if(begins(tables, state, staying, byte));
+        count += u32::from(begins(tables, state, staying, byte));
     }
     count
 }
 
-// Returns the number of classes on which the target steps to itself and the state doesn't lead there.
+// Returns the number of classes on which the target steps to itself, and the state not there.
 fn stray_count(tables: &Tables, state: u32, target: u32) -> u32
     requires state { state < state_count tables.now.machine }
     requires target { target < state_count tables.now.machine }
-    ensures { result ≡ direct.strays_of tables.now.machine state target tables.now.machine.width }
+    ensures { result ≡ direct.stray_count tables.now.machine state target }
 {
     let mut count: u32 = 0;
     for class in 0..tables.classes() {
         let is_stray = leads(Some(target), class_target(tables, target, class as u8))
             && !leads(Some(target), class_target(tables, state, class as u8));
-        count += one_if(is_stray);
+        count += u32::from(is_stray);
     }
     count
 }
@@ -80,11 +79,16 @@ fn goes_on(tables: &Tables, state: u32, target: u32) -> bool
 }
 
 // Returns the earlier one of such targets.
-fn picked(tables: &Tables, state: u32, best: Option<u32>, target: Option<u32>) -> Option<u32>
+fn earlier_target(
+    tables: &Tables,
+    state: u32,
+    best: Option<u32>,
+    target: Option<u32>,
+) -> Option<u32>
     requires state { state < state_count tables.now.machine }
     requires best { IfSome best (λ t. t < state_count tables.now.machine) }
     requires target { IfSome target (λ t. t < state_count tables.now.machine) }
-    ensures picked { result ≡ direct.picked tables.now.machine state best target }
+    ensures earlier { result ≡ direct.earlier_target tables.now.machine state best target }
     ensures below { IfSome result (λ t. t < state_count tables.now.machine) }
 {
     if best.is_some() {
@@ -100,52 +104,33 @@ fn picked(tables: &Tables, state: u32, best: Option<u32>, target: Option<u32>) -
     }
 }
 
-// Returns the first such target of a state.
-fn first_of(tables: &Tables, state: u32) -> Option<u32>
-    requires { state < state_count tables.now.machine }
-    ensures target { result ≡ direct.first_of tables.now.machine state tables.now.machine.width }
-    ensures below { IfSome result (λ t. t < state_count tables.now.machine) }
-{
-    let mut best = None;
-    for class in 0..tables.classes() {
-        let target = class_target(tables, state, class as u8);
-        best = picked(tables, state, best, target);
-    }
-    best
-}
-
-// Returns true if matches in a condition begin in a state.
-fn starts_in(tables: &Tables, condition: u16, state: u32) -> bool
-    requires { condition < length tables.now.machine.starts }
-    ensures { result
-        ≡ direct.starts_in state (slice_index_or tables.now.machine.starts condition (0, 0)) }
-{
-    tables.start(condition, false).0 == state || tables.start(condition, true).0 == state
-}
-
 // Returns true if matches begin in a state.
 fn is_start(tables: &Tables, state: u32) -> bool
     ensures { result ≡ list_any (direct.starts_in state) tables.now.machine.starts }
 {
     for condition in 0..tables.conditions() {
-        if starts_in(tables, condition, state) {
+        if tables.start(condition, false).0 == state || tables.start(condition, true).0 == state {
             return true;
         }
     }
     false
 }
 
-/// Returns the target of the step that is asked for before all others.
+/// Returns the target of the step that is tested before all others.
 pub(crate) fn first_target(tables: &Tables, state: u32) -> Option<u32>
     requires { state < state_count tables.now.machine }
     ensures target { result ≡ direct.first_target tables.now.machine state }
     ensures below { IfSome result (λ t. t < state_count tables.now.machine) }
 {
-    if is_start(tables, state) {
-        first_of(tables, state)
-    } else {
-        None
+    if !is_start(tables, state) {
+        return None;
     }
+    let mut best = None;
+    for class in 0..tables.classes() {
+        let target = class_target(tables, state, class as u8);
+        best = earlier_target(tables, state, best, target);
+    }
+    best
 }
 
 // Returns true if some state has a step to a state.
@@ -161,17 +146,17 @@ fn is_entered(tables: &Tables, state: u32) -> bool
 }
 
 // Appends the test that a range of bytes begins with.
-fn push_low(
+fn push_low_bound(
     text: &mut Vec<u8>,
     tables: &Tables,
     state: u32,
     staying: bool,
     byte: u16,
-) -> Result<(), AllocError>
+) -> PushResult
     requires state { state < state_count tables.now.machine }
     requires byte { byte < 256 }
-    ensures { OnOk result
-        (text.new.items ≡ text.old.items ++ direct.low_text tables.now.machine state staying byte) }
+    ensures { OnOk result (text.new.items
+        ≡ text.old.items ++ direct.low_bound tables.now.machine state staying byte) }
 {
     if !begins(tables, state, staying, byte) {
         return Ok(());
@@ -184,17 +169,17 @@ fn push_low(
 }
 
 // Appends the test that a range of bytes ends with.
-fn push_high(
+fn push_high_bound(
     text: &mut Vec<u8>,
     tables: &Tables,
     state: u32,
     staying: bool,
     byte: u16,
-) -> Result<(), AllocError>
+) -> PushResult
     requires state { state < state_count tables.now.machine }
     requires byte { byte < 256 }
     ensures { OnOk result (text.new.items
-        ≡ text.old.items ++ direct.high_text tables.now.machine state staying byte) }
+        ≡ text.old.items ++ direct.high_bound tables.now.machine state staying byte) }
 {
     if !ends(tables, state, staying, byte) {
         return Ok(());
@@ -206,112 +191,41 @@ fn push_high(
     push_number_then(text, u64::from(byte), b") || ")
 }
 
-fn push_range(
-    text: &mut Vec<u8>,
-    tables: &Tables,
-    state: u32,
-    staying: bool,
-    byte: u16,
-) -> Result<(), AllocError>
-    requires state { state < state_count tables.now.machine }
-    requires byte { byte < 256 }
-    ensures { OnOk result (text.new.items
-        ≡ text.old.items ++ direct.range_text tables.now.machine state staying byte) }
-{
-    push_low(text, tables, state, staying, byte)?;
-    push_high(text, tables, state, staying, byte)
-}
-
-fn push_ranges(
-    text: &mut Vec<u8>,
-    tables: &Tables,
-    state: u32,
-    staying: bool,
-) -> Result<(), AllocError>
+fn push_ranges(text: &mut Vec<u8>, tables: &Tables, state: u32, staying: bool) -> PushResult
     requires { state < state_count tables.now.machine }
     ensures { OnOk result
         (text.new.items ≡ text.old.items ++ direct.ranges_text tables.now.machine state staying) }
 {
     for byte in 0..256 {
-        push_range(text, tables, state, staying, byte)?;
+        push_low_bound(text, tables, state, staying, byte)?;
+        push_high_bound(text, tables, state, staying, byte)?;
     }
     push(text, b"0")
 }
 
-fn push_own_ranges(
-    text: &mut Vec<u8>,
-    options: &Options,
-    tables: &Tables,
-    state: u32,
-) -> Result<(), AllocError>
-    requires { state < state_count tables.now.machine }
-    ensures { OnOk result (text.new.items
-        ≡ text.old.items ++ direct.own_ranges_text options.now tables.now.machine state) }
-{
-    push_numbered(text, options, RANGES, state, b", ")?;
-    push_ranges(text, tables, state, true)
-}
-
-fn push_other_ranges(
-    text: &mut Vec<u8>,
-    options: &Options,
-    tables: &Tables,
-    state: u32,
-) -> Result<(), AllocError>
-    requires { state < state_count tables.now.machine }
-    ensures { OnOk result (text.new.items
-        ≡ text.old.items ++ direct.other_ranges_text options.now tables.now.machine state) }
-{
-    push_numbered(text, options, RANGES, state, b", !(")?;
-    push_ranges(text, tables, state, false)?;
-    push(text, b")")
-}
-
 // Appends the loop of a state up to the rule that it accepts.
-fn push_stays(
-    text: &mut Vec<u8>,
-    options: &Options,
-    tables: &Tables,
-    state: u32,
-) -> Result<(), AllocError>
+fn push_loop_head(text: &mut Vec<u8>, options: &Options, tables: &Tables, state: u32) -> PushResult
     requires { state < state_count tables.now.machine }
     ensures { OnOk result (text.new.items
-        ≡ text.old.items ++ direct.stays_text options.now tables.now.machine state) }
+        ≡ text.old.items ++ direct.loop_head_text options.now tables.now.machine state) }
 {
     if range_count(tables, state, true) < 3 {
-        return push_own_ranges(text, options, tables, state);
+        push_numbered(text, options, RANGES, state, b", ")?;
+        return push_ranges(text, tables, state, true);
     }
     if range_count(tables, state, false) < 3 {
-        push_other_ranges(text, options, tables, state)
-    } else {
-        push_numbered(text, options, LOOP, state, b"")
+        push_numbered(text, options, RANGES, state, b", !(")?;
+        push_ranges(text, tables, state, false)?;
+        return push(text, b")");
     }
-}
-
-fn push_loop(
-    text: &mut Vec<u8>,
-    options: &Options,
-    tables: &Tables,
-    state: u32,
-) -> Result<(), AllocError>
-    requires { state < state_count tables.now.machine }
-    ensures { OnOk result (text.new.items
-        ≡ text.old.items ++ direct.loop_code options.now tables.now.machine state) }
-{
-    push_stays(text, options, tables, state)?;
-    push_numbered(text, options, LOOP_RULE, rule_word(tables, state), b")\n")
+    push_numbered(text, options, LOOP, state, b"")
 }
 
 // Appends the test if the text is at its end, unless it can't be there.
-fn push_end(
-    text: &mut Vec<u8>,
-    options: &Options,
-    tables: &Tables,
-    state: u32,
-) -> Result<(), AllocError>
+fn push_end_test(text: &mut Vec<u8>, options: &Options, tables: &Tables, state: u32) -> PushResult
     requires { state < state_count tables.now.machine }
     ensures { OnOk result (text.new.items
-        ≡ text.old.items ++ direct.end_code options.now tables.now.machine state) }
+        ≡ text.old.items ++ direct.end_test options.now tables.now.machine state) }
 {
     if is_start(tables, state) && !is_entered(tables, state) {
         Ok(())
@@ -320,20 +234,20 @@ fn push_end(
     }
 }
 
-/// Appends the loop of a state. A state without one asks if the text is at its end.
-pub(crate) fn push_begin(
+/// Appends the loop of a state, or if it has none the test for the end of the text.
+pub(crate) fn push_loop_or_end(
     text: &mut Vec<u8>,
     options: &Options,
     tables: &Tables,
     state: u32,
-) -> Result<(), AllocError>
+) -> PushResult
     requires { state < state_count tables.now.machine }
     ensures { OnOk result (text.new.items
-        ≡ text.old.items ++ direct.begin_code options.now tables.now.machine state) }
+        ≡ text.old.items ++ direct.loop_or_end_code options.now tables.now.machine state) }
 {
     if step_count(tables, state, Some(state)) == 0 {
-        push_end(text, options, tables, state)
-    } else {
-        push_loop(text, options, tables, state)
+        return push_end_test(text, options, tables, state);
     }
+    push_loop_head(text, options, tables, state)?;
+    push_numbered(text, options, LOOP_RULE, rule_word(tables, state), b")\n")
 }

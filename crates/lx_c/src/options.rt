@@ -10,8 +10,9 @@ use crate::fault::OptionFault;
 use lx_rules::identifier::{is_digit, is_identifier};
 use std::marker::Model;
 
-/// The options of a scanner in C: the prefix of its names, the names of the start conditions where they are known, the file that declares its kinds, if
-/// there is one, and whether it is code for each state, in the place of rows by classes of bytes.
+/// The options of a scanner in C: the prefix of its names, the names of the start conditions if
+/// they are known, the file that declares its kinds, if there is one, and the form: code for each
+/// state, or rows by classes of bytes.
 #[derive(Drop)]
 pub struct Options {
     prefix: Vec<u8>,
@@ -23,17 +24,17 @@ pub struct Options {
 impl Model for Options {
     ghost use Rattle.std.specs.Prelude.{option_map};
     ghost use Rattle.lx_rules.specs.views.Rules.{names_view};
-    ghost use Rattle.lx_c.specs.Options.{Options, AreOptions};
+    ghost use Rattle.lx_c.specs.Options.{Options, AreOptions, options_of};
 
     ghost Value = { Options };
 
     ghost view = { λ o.
-        record
-        { prefix = o.prefix.items; conditions = names_view o.conditions.items; include = option_map (λ file. file.items) o.include; direct = o.direct } };
+        options_of o.prefix.items (names_view o.conditions.items)
+        (option_map (λ file. file.items) o.include) o.direct };
 
     ghost invariant = { λ o.
-        AreOptions (record
-        { prefix = o.prefix.items; conditions = names_view o.conditions.items; include = option_map (λ file. file.items) o.include; direct = o.direct }) };
+        AreOptions (options_of o.prefix.items (names_view o.conditions.items)
+        (option_map (λ file. file.items) o.include) o.direct) };
 }
 
 fn is_small_letter(c: u8) -> bool
@@ -88,35 +89,32 @@ fn are_include_bytes(file: &[u8]) -> bool
     file.iter().all(|c| is_include_byte(*c))
 }
 
-fn is_include(file: &[u8]) -> bool
-    ensures { result ≡ specs.is_include file.now }
-{
-    1 <= file.len() && (file.len() <= 255 && are_include_bytes(file))
-}
-
-fn is_any_include(include: &Option<Vec<u8>>) -> bool
-    ensures { result ≡ specs.is_any_include (option_map (λ file. file.items) include.now) }
+// Returns true if no file is named, or one of 1 to 255 such bytes.
+fn is_include(include: &Option<Vec<u8>>) -> bool
+    ensures { result ≡ specs.is_include (option_map (λ file. file.items) include.now) }
 {
     match include {
         None => true,
-        Some(file) => is_include(file),
+        Some(file) => 1 <= file.len() && (file.len() <= 255 && are_include_bytes(file)),
     }
 }
 
 impl Options {
-    /// The options of these parts, with rows by classes of bytes. The prefix is a small letter with up to 31 small letters, digits or `_` behind it; the names of the conditions, of each in
-    /// order, or none where they aren't known, are identifiers; the name of the file is 1 to 255 bytes of 32 to 126 without `"` and `\`.
+    /// Makes options of these parts, with rows by classes of bytes. The prefix is a small letter,
+    /// and then up to 31 small letters, digits or `_`. The names of the conditions, of each in
+    /// order or of none, are identifiers. The name of the file is 1 to 255 bytes of 32 to 126 without `"`
+    /// and `\`. Err: the first part that isn't so.
     pub fn of(
         prefix: Vec<u8>,
         conditions: Vec<Vec<u8>>,
         include: Option<Vec<u8>>,
     ) -> Result<Options, OptionFault>
         ensures ok { IfOk result (λ o.
-            o ≡ record
-            { prefix = prefix.items; conditions = names_view conditions.items; include = option_map (λ file. file.items) include; direct = false }) }
+            o ≡ specs.options_of prefix.items (names_view conditions.items)
+            (option_map (λ file. file.items) include) false) }
         ensures err { IfErr result (λ e.
-            Some e ≡ specs.option_fault (record
-            { prefix = prefix.items; conditions = names_view conditions.items; include = option_map (λ file. file.items) include; direct = false })) }
+            Some e ≡ specs.option_fault (specs.options_of prefix.items (names_view conditions.items)
+            (option_map (λ file. file.items) include) false)) }
     {
         if !is_prefix(&prefix) {
             return Err(OptionFault::Prefix);
@@ -124,7 +122,7 @@ impl Options {
         if !are_identifiers(&conditions) {
             return Err(OptionFault::Condition);
         }
-        if !is_any_include(&include) {
+        if !is_include(&include) {
             return Err(OptionFault::Include);
         }
         Ok(Options {
@@ -135,7 +133,8 @@ impl Options {
         })
     }
 
-    /// The same with these names of the conditions, of each in order, where all are identifiers, as those of a specification are; else without names.
+    /// Returns the same with these names of the conditions, of each in order, if all are
+    /// identifiers, as those of a specification are; else the same.
     pub fn named(self, conditions: Vec<Vec<u8>>) -> Options
         ensures { result ≡ specs.named self (names_view conditions.items) }
     {
@@ -150,7 +149,7 @@ impl Options {
         }
     }
 
-    /// The prefix.
+    /// Returns the prefix.
     pub fn prefix(&self) -> &[u8]
         ensures { result.now ≡ self.now.prefix }
     {
@@ -164,7 +163,7 @@ impl Options {
         self.conditions.len()
     }
 
-    /// The name of a condition.
+    /// Returns the name of a condition.
     pub(crate) fn condition(&self, number: usize) -> &[u8]
         requires { number < length self.now.conditions }
         ensures { result.now ≡ slice_index_or self.now.conditions number [] }
@@ -172,14 +171,14 @@ impl Options {
         &self.conditions[number]
     }
 
-    /// The file that declares the kinds.
+    /// Returns the name of the file that declares the kinds.
     pub fn include(&self) -> Option<&[u8]>
         ensures { option_map (λ file. file.now) result ≡ self.now.include }
     {
         self.include.as_ref().map(|file| file.as_slice())
     }
 
-    /// The same with code for each state, or with rows by classes of bytes.
+    /// Returns the same with code for each state, or with rows by classes of bytes.
     pub fn directly(self, direct: bool) -> Options
         ensures { result ≡ specs.directly self direct }
     {

@@ -1,23 +1,25 @@
 //! Parts of the text of a scanner, appended.
 
 ghost use Rattle.std.specs.Prelude.{◌≡◌, ◌++◌, OnOk};
-ghost use Rattle.lx_c.specs.DirectCode.{numbered};
-ghost use Rattle.lx_c.specs.Templates.{filled, number_then};
+ghost use Rattle.lx_c.specs.Templates.{either, filled, number_then, numbered};
 ghost use Rattle.lx_tables.specs.Texts.{number};
 
 use crate::options::Options;
 use itoa::Buffer;
 use std::alloc::AllocError;
 
+/// The result of appending to a text. Err: memory was refused.
+pub(crate) type PushResult = Result<(), AllocError>;
+
 /// Appends bytes.
-pub(crate) fn push(text: &mut Vec<u8>, bytes: &[u8]) -> Result<(), AllocError>
+pub(crate) fn push(text: &mut Vec<u8>, bytes: &[u8]) -> PushResult
     ensures { OnOk result (text.new.items ≡ text.old.items ++ bytes.now) }
 {
     text.extend_from_slice(bytes)
 }
 
 /// Appends a number.
-pub(crate) fn push_number(text: &mut Vec<u8>, n: u64) -> Result<(), AllocError>
+pub(crate) fn push_number(text: &mut Vec<u8>, n: u64) -> PushResult
     ensures { OnOk result (text.new.items ≡ text.old.items ++ number n) }
 {
     let mut digits = Buffer::new();
@@ -25,7 +27,7 @@ pub(crate) fn push_number(text: &mut Vec<u8>, n: u64) -> Result<(), AllocError>
 }
 
 /// Appends a number and the bytes after it.
-pub(crate) fn push_number_then(text: &mut Vec<u8>, n: u64, after: &[u8]) -> Result<(), AllocError>
+pub(crate) fn push_number_then(text: &mut Vec<u8>, n: u64, after: &[u8]) -> PushResult
     ensures { OnOk result (text.new.items ≡ text.old.items ++ number_then n after.now) }
 {
     push_number(text, n)?;
@@ -33,11 +35,7 @@ pub(crate) fn push_number_then(text: &mut Vec<u8>, n: u64, after: &[u8]) -> Resu
 }
 
 /// Appends a template, with the prefix for each `@`.
-pub(crate) fn push_filled(
-    text: &mut Vec<u8>,
-    options: &Options,
-    template: &[u8],
-) -> Result<(), AllocError>
+pub(crate) fn push_filled(text: &mut Vec<u8>, options: &Options, template: &[u8]) -> PushResult
     ensures { OnOk result
         (text.new.items ≡ text.old.items ++ filled options.now.prefix template.now) }
 {
@@ -51,6 +49,24 @@ pub(crate) fn push_filled(
     Ok(())
 }
 
+/// Appends one of two templates.
+pub(crate) fn push_either(
+    text: &mut Vec<u8>,
+    options: &Options,
+    is_first: bool,
+    first: &[u8],
+    second: &[u8],
+) -> PushResult
+    ensures { OnOk result (text.new.items
+        ≡ text.old.items ++ either options.now is_first first.now second.now) }
+{
+    if is_first {
+        push_filled(text, options, first)
+    } else {
+        push_filled(text, options, second)
+    }
+}
+
 /// Appends a template, a number, and the bytes after it.
 pub(crate) fn push_numbered(
     text: &mut Vec<u8>,
@@ -58,7 +74,7 @@ pub(crate) fn push_numbered(
     template: &[u8],
     n: u32,
     after: &[u8],
-) -> Result<(), AllocError>
+) -> PushResult
     ensures { OnOk result
         (text.new.items ≡ text.old.items ++ numbered options.now template.now n after.now) }
 {

@@ -2,7 +2,7 @@
 
 ghost use Rattle.lx_automaton.specs.Automata.{class_target, state_count, target_of};
 ghost use Rattle.lx_c.specs.DirectCode as direct;
-ghost use Rattle.std.specs.Prelude.{IfSome, ◌<◌, ◌≡◌, ◌≤◌};
+ghost use Rattle.std.specs.Prelude.{IfSome, ◌<◌, ◌≡◌};
 
 use lx_tables::{State, Tables};
 
@@ -41,13 +41,6 @@ pub(crate) fn leads(wanted: Option<u32>, target: Option<u32>) -> bool
     }
 }
 
-pub(crate) fn one_if(is_one: bool) -> u32
-    ensures one { result ≡ direct.one_if is_one }
-    ensures small { result ≤ 1 }
-{
-    if is_one { 1 } else { 0 }
-}
-
 /// Returns the number of classes on which a state has such a step.
 pub(crate) fn step_count(tables: &Tables, state: u32, wanted: Option<u32>) -> u32
     requires { state < state_count tables.now.machine }
@@ -56,7 +49,7 @@ pub(crate) fn step_count(tables: &Tables, state: u32, wanted: Option<u32>) -> u3
     let mut count: u32 = 0;
     for class in 0..tables.classes() {
         let target = class_target(tables, state, class as u8);
-        count += one_if(leads(wanted, target));
+        count += u32::from(leads(wanted, target));
     }
     count
 }

@@ -35,10 +35,10 @@ pub(crate) const KINDS_END: &[u8] = br#"
 };
 "#;
 
-/// Behind it the number of the first kind stands.
+/// The number of the first kind comes after it.
 pub(crate) const FIRST_KIND: &[u8] = br#"#define @_FIRST "#;
 
-/// Behind it the number of start conditions stands.
+/// The number of start conditions comes after it.
 pub(crate) const CONDITIONS: &[u8] = br#"#define @_CONDITIONS "#;
 
 /// Types and functions.
@@ -101,7 +101,7 @@ typedef struct @_scanner {
 #endif
 "#;
 
-/// The array of the steps of a rule; its number stands behind.
+/// The array of the steps of a rule; the rule's number comes after it.
 pub(crate) const STEP_ARRAY: &[u8] = br#"static const int @__steps_"#;
 
 /// The name of the array of a rule's steps; its number follows.
@@ -121,7 +121,7 @@ pub(crate) const ACTIONS: &[u8] = br#"static const int @__action[] = {
 pub(crate) const LINE_END: &[u8] = br#"#define @__CUT(rule) @__cut[rule]
 "#;
 
-/// The same where no rule ends with `$`.
+/// The same if no rule ends with `$`.
 pub(crate) const NO_LINE_END: &[u8] = br#"#define @__CUT(rule) 0
 "#;
 
@@ -134,7 +134,7 @@ pub(crate) const LINE_ENDS: &[u8] = br#"static const unsigned char @__cut[] = {
 pub(crate) const PENDING: &[u8] = br#"#define @__PENDING s->pending
 "#;
 
-/// The same where no action goes on behind a token.
+/// The same if no action goes on after a token.
 pub(crate) const NOTHING_PENDING: &[u8] = br#"#define @__PENDING 0
 "#;
 
@@ -142,7 +142,7 @@ pub(crate) const NOTHING_PENDING: &[u8] = br#"#define @__PENDING 0
 pub(crate) const NAMES: &[u8] = br#"static const char *const @__names[] = {
 "#;
 
-/// The kinds themselves, where a file declares them.
+/// The kinds themselves, if a file declares them.
 pub(crate) const KINDS: &[u8] = br#"static const int @__kinds[] = {
 "#;
 
@@ -150,7 +150,7 @@ pub(crate) const KINDS: &[u8] = br#"static const int @__kinds[] = {
 pub(crate) const LINE_BEGIN: &[u8] = br#"#define @__BEGIN(b) (b)
 "#;
 
-/// The same where that makes no difference.
+/// The same if that makes no difference.
 pub(crate) const NO_LINE_BEGIN: &[u8] = br#"#define @__BEGIN(b) 1
 "#;
 
@@ -161,11 +161,11 @@ pub(crate) const WIDTH: &[u8] = br#"#define @__WIDTH "#;
 pub(crate) const CLASSES: &[u8] = br#"static const unsigned char @__class[] = {
 "#;
 
-/// The rows, behind their type.
+/// The rows, after their type.
 pub(crate) const ROWS: &[u8] = br#" @__row[] = {
 "#;
 
-/// The starts, behind their type.
+/// The starts, after their type.
 pub(crate) const STARTS: &[u8] = br#" @__start[] = {
 "#;
 

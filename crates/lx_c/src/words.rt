@@ -1,6 +1,7 @@
 //! Words of C and C++ that can be no kind.
 
-/// The keywords, and the names that standard headers define, where a kind behind its prefix could be one; each between blanks.
+/// The keywords and the names of standard headers that a kind after its prefix could be, each between
+/// blanks.
 pub(crate) const WORDS: &[u8] = b" \
     alignas alignof and and_eq asm auto bitand bitor bool break case catch char char16_t \
     char32_t char8_t class co_await co_return co_yield compl concept const const_cast consteval \

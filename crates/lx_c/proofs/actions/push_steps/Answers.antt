@@ -1,14 +1,6 @@
-use Rattle.std.proofs.Common.{arith, ◌+◌, ◌/◌, length}
-use Rattle.std.specs.Prelude.{codes}
-use Rattle.lx_c.specs.Templates.{filled}
-use Rattle.lx_c.specs.declared.templates.TheConstants.{STEPS}
-use Rattle.lx_c.specs.Actions.{steps_entry}
-use Rattle.lx_tables.specs.Model.{rule_at}
-use Rattle.lx_c.proofs.Texts.{text_next, text_between}
+use Rattle.std.proofs.Common.{arith}
+use Rattle.lx_c.proofs.Texts.{text_between}
 use Rattle.lx_c.proofs.actions.push_steps.Goals as goal
 
-pub loop-rule-preserved : goal.loop-rule-preserved
-loop-rule-preserved c = text_next (λ r. steps_entry c.args.options.now r (rule_at c.args.tables.now r).steps) _ _ _ (length c.args.tables.now.rules) c.loop-rule.rule (omega arith) c.loop-rule.invariant (rw c.steps.ensures at c.in_ok-push_steps_entry.ensures)
-
 pub returns : goal.returns
-returns c = text_between c.push.result (λ r. steps_entry c.args.options.now r (rule_at c.args.tables.now r).steps) c.args.text.now.items (filled c.args.options.now.prefix STEPS.now) (codes "0};\n") c.loop-rule.text.items c.push.new.text.items (length c.args.tables.now.rules) c.loop-rule.rule (omega arith) c.loop-rule.invariant c.push.ensures
+returns c = text_between c.push.result _ _ _ _ _ _ _ _ c.loop-rule.invariant (omega arith) c.push.ensures

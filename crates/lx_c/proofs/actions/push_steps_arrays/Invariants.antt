@@ -1,8 +1,7 @@
-use Rattle.std.proofs.Common.{◌≡◌, ◌++◌, ◌+◌, ◌/◌, length, take}
-use Rattle.std.specs.List.{flat_map, range_with_len}
+use Rattle.lx_c.proofs.Texts.{HasTexts}
 use Rattle.lx_c.specs.Actions.{steps_array}
 use Rattle.lx_tables.specs.Model.{rule_at}
 use Rattle.lx_c.proofs.actions.push_steps_arrays.Given as goal
 
 abbrev pub invariant-loop-rule : goal.invariant-loop-rule
-invariant-loop-rule l = l.text.items ≡ l.fn.text.items ++ flat_map (λ r. steps_array l.options l.first l.tables r (rule_at l.tables r).steps) (take l.rule (range_with_len 0 (length l.tables.rules)))
+invariant-loop-rule l = HasTexts (λ r. steps_array l.options l.first l.tables r (rule_at l.tables r).steps) l.fn.text.items l.text.items l.rule

@@ -1,10 +1,6 @@
-use Rattle.std.proofs.Common.{arith, ◌+◌, ◌/◌, length}
-use Rattle.lx_c.specs.DirectCode.{rule_code}
-use Rattle.lx_c.proofs.Texts.{text_next, text_end}
+use Rattle.std.proofs.Common.{arith}
+use Rattle.lx_c.proofs.Texts.{text_end}
 use Rattle.lx_c.proofs.direct.push_rule_codes.Goals as goal
 
-pub loop-rule-preserved : goal.loop-rule-preserved
-loop-rule-preserved c = text_next (rule_code c.args.options.now) _ _ _ (length c.args.tables.now.rules) c.loop-rule.rule (omega arith) c.loop-rule.invariant c.in_ok-push_rule_code.ensures
-
 pub returns : goal.returns
-returns c = text_end (rule_code c.args.options.now) _ _ (length c.args.tables.now.rules) c.loop-rule.rule (omega arith) c.loop-rule.invariant
+returns c = text_end _ _ _ _ _ c.loop-rule.invariant (omega arith)

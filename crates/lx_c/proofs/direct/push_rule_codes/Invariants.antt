@@ -1,7 +1,6 @@
-use Rattle.std.proofs.Common.{◌≡◌, ◌++◌, ◌+◌, ◌/◌, length, take}
-use Rattle.std.specs.List.{flat_map, range_with_len}
+use Rattle.lx_c.proofs.Texts.{HasTexts}
 use Rattle.lx_c.specs.DirectCode.{rule_code}
 use Rattle.lx_c.proofs.direct.push_rule_codes.Given as goal
 
 abbrev pub invariant-loop-rule : goal.invariant-loop-rule
-invariant-loop-rule l = l.text.items ≡ l.fn.text.items ++ flat_map (rule_code l.options) (take l.rule (range_with_len 0 (length l.tables.rules)))
+invariant-loop-rule l = HasTexts (rule_code l.options) l.fn.text.items l.text.items l.rule

@@ -8,8 +8,8 @@ pub loop-rule-preserved : goal.loop-rule-preserved
 loop-rule-preserved c =
     let more = above_more (λ rule. returned_by rule.steps) 256 c.args.tables.now.rules c.loop-rule.rule (record { line_end = false; steps = [] }) (omega arith) in
     record {
-      number = c.above_steps-first.ensures.number
+      number = c.number_above_steps-first.ensures.number
           ∙ (ap (λ steps. above c.loop-rule.first (returned_by steps)) c.steps.ensures
           ∙ (ap (λ n. above n (returned_by (rule_at c.args.tables.now c.loop-rule.rule).steps)) c.loop-rule.invariant.number ∙ sym more));
-      small = c.above_steps-first.ensures.small;
+      small = c.number_above_steps-first.ensures.small;
     }

@@ -1,7 +1,6 @@
-use Rattle.std.proofs.Common.{◌≡◌, ◌++◌, ◌+◌, ◌/◌, length, take}
-use Rattle.std.specs.List.{flat_map, range_with_len}
+use Rattle.lx_c.proofs.Texts.{HasTexts}
 use Rattle.lx_c.specs.DirectCode.{range_text}
 use Rattle.lx_c.proofs.looping.push_ranges.Given as goal
 
 abbrev pub invariant-loop-byte : goal.invariant-loop-byte
-invariant-loop-byte l = l.text.items ≡ l.fn.text.items ++ flat_map (range_text l.tables.machine l.state l.staying) (take l.byte (range_with_len 0 (256)))
+invariant-loop-byte l = HasTexts (range_text l.tables.machine l.state l.staying) l.fn.text.items l.text.items l.byte

@@ -1,0 +1,6 @@
+use Rattle.std.proofs.Common.{arith}
+use Rattle.lx_c.proofs.Texts.{text_between}
+use Rattle.lx_c.proofs.rows.push_start_array.Goals as goal
+
+pub returns : goal.returns
+returns c = text_between c.push.result _ _ _ _ _ _ _ _ c.loop-condition.invariant (omega arith) c.push.ensures

@@ -1,7 +1,0 @@
-use Rattle.std.proofs.Common.{◌≡◌, ◌++◌, ◌+◌, ◌/◌, length, take}
-use Rattle.std.specs.List.{flat_map, range_with_len}
-use Rattle.lx_c.specs.Rows.{start_line}
-use Rattle.lx_c.proofs.rows.push_starts.Given as goal
-
-abbrev pub invariant-loop-condition : goal.invariant-loop-condition
-invariant-loop-condition l = l.text.items ≡ l.fn.text.items ++ flat_map (start_line l.tables.machine) (take l.condition (range_with_len 0 (length l.tables.machine.starts)))
