@@ -4,7 +4,7 @@ use crate::conditions::without_hyphens;
 use crate::cursor::front;
 use crate::definitions::{Declared, FlexDefinition};
 use crate::report::ReadFault;
-use lx_flex_pattern::{Names, Tree, read_pattern, translate_substitute};
+use lx_flex_pattern::{NamedPatterns, Tree, read_pattern, translate_substitute};
 use std::alloc::{AllocError, Global};
 
 /// Greatest number of passes over the definitions, which is the greatest depth of names in lx.
@@ -73,7 +73,7 @@ fn lx_name_at<'a>(lx: &'a [Vec<u8>], inlined: &[usize], place: usize) -> Option<
 /// Adds a definition, which is expanded if it has no name in lx.
 fn add_definition(
     alloc: Global,
-    names: &mut Names,
+    names: &mut NamedPatterns,
     definition: &FlexDefinition,
     lx: Option<&Vec<u8>>,
 ) -> Result<(), AllocError> {
@@ -95,8 +95,8 @@ fn names_of(
     definitions: &[FlexDefinition],
     lx: &[Vec<u8>],
     inlined: &[usize],
-) -> Result<Names, AllocError> {
-    let mut names = Names::new(alloc);
+) -> Result<NamedPatterns, AllocError> {
+    let mut names = NamedPatterns::new(alloc);
     let mut place: usize = 0;
     for definition in definitions {
         add_definition(
@@ -114,7 +114,7 @@ fn names_of(
 fn import_definition(
     alloc: Global,
     declared: &Declared,
-    names: &Names,
+    names: &NamedPatterns,
     definition: &FlexDefinition,
 ) -> Result<Option<(Tree, Vec<u8>)>, ReadFault> {
     let text = definition.text.as_slice();
@@ -140,7 +140,7 @@ fn import_definition(
 /// The definitions of lx, and the names that patterns may use.
 #[derive(Drop)]
 pub(crate) struct PatternNames {
-    pub(crate) names: Names,
+    pub(crate) names: NamedPatterns,
     pub(crate) definitions: Vec<ImportedDefinition>,
 }
 
@@ -149,7 +149,7 @@ fn pass(
     alloc: Global,
     declared: &Declared,
     lx: &[Vec<u8>],
-    names: &Names,
+    names: &NamedPatterns,
     inlined: &mut Vec<usize>,
 ) -> Result<(Vec<ImportedDefinition>, bool), ReadFault> {
     let mut definitions = Vec::new(alloc);

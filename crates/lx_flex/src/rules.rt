@@ -6,7 +6,7 @@ use crate::conditions::{name_at, place_of, union};
 use crate::cursor::{TextCursor, between, blank_run, is_blank, skip};
 use crate::definitions::Declared;
 use crate::report::{ImportCause, ReadFault, Reports, stop};
-use lx_flex_pattern::{Names, Reading, read_pattern};
+use lx_flex_pattern::{NamedPatterns, Reading, read_pattern};
 use lx_rules::limits::MAX_RULES;
 use std::alloc::{AllocError, Global};
 
@@ -175,7 +175,7 @@ fn read_rule_pattern(
     alloc: Global,
     cursor: &mut TextCursor,
     declared: &Declared,
-    names: &Names,
+    names: &NamedPatterns,
     reports: &mut Reports,
 ) -> Result<Option<Reading>, ReadFault> {
     let line = cursor.line;
@@ -202,7 +202,7 @@ fn read_rule(
     alloc: Global,
     cursor: &mut TextCursor,
     declared: &Declared,
-    names: &Names,
+    names: &NamedPatterns,
     reports: &mut Reports,
     rules: &mut Rules,
     own: &[u16],
@@ -291,7 +291,7 @@ fn read_listed(
     alloc: Global,
     cursor: &mut TextCursor,
     declared: &Declared,
-    names: &Names,
+    names: &NamedPatterns,
     reports: &mut Reports,
     rules: &mut Rules,
 ) -> Result<(), ReadFault> {
@@ -368,7 +368,7 @@ fn read_line(
     alloc: Global,
     cursor: &mut TextCursor,
     declared: &Declared,
-    names: &Names,
+    names: &NamedPatterns,
     reports: &mut Reports,
     rules: &mut Rules,
 ) -> Result<(), ReadFault> {
@@ -390,7 +390,7 @@ pub(crate) fn read_rules(
     alloc: Global,
     cursor: &mut TextCursor,
     declared: &Declared,
-    names: &Names,
+    names: &NamedPatterns,
     reports: &mut Reports,
 ) -> Result<Vec<FlexRule>, ReadFault> {
     let mut rules = Rules {

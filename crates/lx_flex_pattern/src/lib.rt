@@ -17,7 +17,7 @@ pub mod trees;
 
 pub use crate::classes::Class;
 pub use crate::fault::PatternFault;
-pub use crate::names::{NamedPattern, Names};
+pub use crate::names::{NamedPattern, NamedPatterns};
 pub use crate::reading::{PatternOptions, Reading, read_pattern};
 pub use crate::translation::{has_same_texts, is_read_as, translate, translate_substitute};
 pub use crate::trees::{FlexPattern, SetMember, Tree};

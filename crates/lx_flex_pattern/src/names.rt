@@ -14,14 +14,14 @@ pub struct NamedPattern {
 
 /// The definitions by their names.
 #[derive(Drop)]
-pub struct Names {
+pub struct NamedPatterns {
     entries: BTreeMap<Vec<u8>, NamedPattern>,
 }
 
-impl Names {
+impl NamedPatterns {
     /// Returns an empty map.
-    pub fn new(alloc: Global) -> Names {
-        Names {
+    pub fn new(alloc: Global) -> NamedPatterns {
+        NamedPatterns {
             entries: BTreeMap::new(alloc),
         }
     }

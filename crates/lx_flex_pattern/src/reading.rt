@@ -5,7 +5,7 @@ use crate::classes::is_letter;
 use crate::escapes::{is_digit, read_escape, read_interval, read_name};
 use crate::fault::PatternFault;
 use crate::groups::{Flags, GroupStack};
-use crate::names::Names;
+use crate::names::NamedPatterns;
 use crate::source::{MAX_FLEX_PATTERN_BYTES, Source, front};
 use crate::trees::{FlexPattern, SetMember, Tree};
 use std::alloc::{AllocError, Global};
@@ -218,7 +218,7 @@ fn inline(
 fn read_named(
     alloc: Global,
     state: &mut ReadingState,
-    names: &Names,
+    names: &NamedPatterns,
     options: PatternOptions,
 ) -> Result<(), PatternFault> {
     let Some(name) = read_name(alloc, &mut state.source)? else {
@@ -262,7 +262,7 @@ fn read_combination(
 fn read_brace(
     alloc: Global,
     state: &mut ReadingState,
-    names: &Names,
+    names: &NamedPatterns,
     options: PatternOptions,
 ) -> Result<bool, PatternFault> {
     if state.source.begins_with(b"-}") || state.source.begins_with(b"+}") {
@@ -315,7 +315,7 @@ fn read_slash(alloc: Global, state: &mut ReadingState) -> Result<(), PatternFaul
 fn read_special(
     alloc: Global,
     state: &mut ReadingState,
-    names: &Names,
+    names: &NamedPatterns,
     options: PatternOptions,
     byte: u8,
 ) -> Result<Option<bool>, PatternFault> {
@@ -386,7 +386,7 @@ fn ends_at(state: &mut ReadingState, byte: u8) -> Result<bool, PatternFault> {
 fn step(
     alloc: Global,
     state: &mut ReadingState,
-    names: &Names,
+    names: &NamedPatterns,
     options: PatternOptions,
     byte: u8,
 ) -> Result<bool, PatternFault> {
@@ -418,7 +418,7 @@ fn step(
 fn run(
     alloc: Global,
     state: &mut ReadingState,
-    names: &Names,
+    names: &NamedPatterns,
     options: PatternOptions,
 ) -> Result<(), PatternFault> {
     for _ in 0..MAX_STEPS {
@@ -484,7 +484,7 @@ fn finish_pattern(
 pub fn read_pattern(
     alloc: Global,
     text: &[u8],
-    names: &Names,
+    names: &NamedPatterns,
     options: PatternOptions,
 ) -> Result<Reading, PatternFault> {
     let window = front(MAX_FLEX_PATTERN_BYTES, text);

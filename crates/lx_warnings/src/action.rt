@@ -1,7 +1,7 @@
 //! Suspicious parts of actions.
 
 use crate::kinds::{KindSet, WarningKind};
-use crate::suspects::{Search, push_part};
+use crate::suspects::{SuspectSearch, push_part};
 use lx_diagnose::Span;
 use lx_diagnose::words::words_of;
 use lx_spec::action::{Statement, Turn, turn_at};
@@ -33,7 +33,7 @@ fn dead_word(words: &[Word]) -> Option<usize> {
 
 /// Examines a well-formed action.
 pub(crate) fn look_at_action(
-    search: &mut Search<'_>,
+    search: &mut SuspectSearch<'_>,
     allowed: &KindSet,
     action: Span,
 ) -> Result<(), AllocError> {

@@ -1,7 +1,7 @@
 //! Bracket expressions that may not mean what their writer intended.
 
 use crate::kinds::{KindSet, WarningKind};
-use crate::suspects::{Search, push_part};
+use crate::suspects::{SuspectSearch, push_part};
 use lx_diagnose::Span;
 use lx_diagnose::places::between;
 use lx_diagnose::scan::{begins_at, find, is_at, part, skip_name};
@@ -46,7 +46,7 @@ pub(crate) fn character_before(text: &[u8], start: usize, end: usize) -> Option<
 
 // Warns of the first multi-byte character in brackets.
 fn look_at_characters(
-    search: &mut Search<'_>,
+    search: &mut SuspectSearch<'_>,
     allowed: &KindSet,
     brackets: Span,
 ) -> Result<(), AllocError> {
@@ -63,7 +63,7 @@ fn look_at_characters(
 
 // Warns of a class without its outer brackets.
 fn look_at_class(
-    search: &mut Search<'_>,
+    search: &mut SuspectSearch<'_>,
     allowed: &KindSet,
     brackets: Span,
 ) -> Result<(), AllocError> {
@@ -126,7 +126,7 @@ fn range_phrase(low: u8, high: u8) -> Option<&'static str> {
 
 // Examines the member of brackets that begins at this position. Returns the position after it.
 fn look_at_member(
-    search: &mut Search<'_>,
+    search: &mut SuspectSearch<'_>,
     allowed: &KindSet,
     at: usize,
     end: usize,
@@ -149,7 +149,7 @@ fn look_at_member(
 }
 
 fn look_at_ranges(
-    search: &mut Search<'_>,
+    search: &mut SuspectSearch<'_>,
     allowed: &KindSet,
     brackets: Span,
 ) -> Result<(), AllocError> {
@@ -171,7 +171,7 @@ fn look_at_ranges(
 
 /// Examines a bracket expression.
 pub(crate) fn look_at_brackets(
-    search: &mut Search<'_>,
+    search: &mut SuspectSearch<'_>,
     allowed: &KindSet,
     brackets: Span,
 ) -> Result<(), AllocError> {

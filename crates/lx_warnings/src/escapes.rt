@@ -1,7 +1,7 @@
 //! Escapes that may not mean what their writer intended.
 
 use crate::kinds::{KindSet, WarningKind};
-use crate::suspects::{Search, push_part};
+use crate::suspects::{SuspectSearch, push_part};
 use lx_diagnose::Span;
 use lx_diagnose::places::between;
 use lx_diagnose::scan::is_at;
@@ -48,7 +48,7 @@ fn letter_phrase(byte: u8) -> Option<&'static str> {
 
 // Examines an escape with `digits` hexadecimal digits.
 fn look_at_hexadecimal(
-    search: &mut Search<'_>,
+    search: &mut SuspectSearch<'_>,
     allowed: &KindSet,
     at: Span,
     digits: usize,
@@ -67,7 +67,7 @@ fn look_at_hexadecimal(
 
 // Examines the escape whose backslash is at this position.
 fn look_at_escape(
-    search: &mut Search<'_>,
+    search: &mut SuspectSearch<'_>,
     allowed: &KindSet,
     start: usize,
     end: usize,
@@ -94,7 +94,7 @@ fn look_at_escape(
 
 /// Examines the escapes of a lexeme.
 pub(crate) fn look_at_escapes(
-    search: &mut Search<'_>,
+    search: &mut SuspectSearch<'_>,
     allowed: &KindSet,
     lexeme: Span,
 ) -> Result<(), AllocError> {

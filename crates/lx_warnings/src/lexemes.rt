@@ -4,7 +4,7 @@ use crate::brackets::{character_before, look_at_brackets};
 use crate::branches::{Branch, Branches};
 use crate::escapes::look_at_escapes;
 use crate::kinds::{KindSet, WarningKind};
-use crate::suspects::{Search, Subject, Suspect, push_part, push_suspect};
+use crate::suspects::{Subject, Suspect, SuspectSearch, push_part, push_suspect};
 use lx_diagnose::Span;
 use lx_diagnose::places::between;
 use lx_diagnose::scan::is_at;
@@ -13,7 +13,7 @@ use std::alloc::AllocError;
 
 // Warns of an interval after several units.
 fn look_at_interval(
-    search: &mut Search<'_>,
+    search: &mut SuspectSearch<'_>,
     allowed: &KindSet,
     branch: Branch,
     at: Span,
@@ -35,7 +35,7 @@ fn look_at_interval(
 
 // Warns of a repeat after a repeat, or after the last byte of a multi-byte character.
 fn look_at_repeat(
-    search: &mut Search<'_>,
+    search: &mut SuspectSearch<'_>,
     allowed: &KindSet,
     branches: &Branches,
     at: Span,
@@ -74,7 +74,11 @@ fn is_curly_at(text: &[u8], at: usize) -> bool {
 }
 
 // Examines a lexeme that is one byte, an escape or brackets.
-fn look_at_set(search: &mut Search<'_>, allowed: &KindSet, at: Span) -> Result<(), AllocError> {
+fn look_at_set(
+    search: &mut SuspectSearch<'_>,
+    allowed: &KindSet,
+    at: Span,
+) -> Result<(), AllocError> {
     let text = search.text;
     if is_at(text, at.start, b'[') {
         look_at_brackets(search, allowed, at)?;
@@ -95,7 +99,7 @@ fn look_at_set(search: &mut Search<'_>, allowed: &KindSet, at: Span) -> Result<(
 
 /// Examines the lexeme at this position, which comes after these branches.
 pub(crate) fn look_at_lexeme(
-    search: &mut Search<'_>,
+    search: &mut SuspectSearch<'_>,
     allowed: &KindSet,
     branches: &Branches,
     lexeme: &Lexeme,

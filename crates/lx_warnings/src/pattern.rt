@@ -3,7 +3,7 @@
 use crate::branches::{branches_at, take_lexeme};
 use crate::kinds::KindSet;
 use crate::lexemes::look_at_lexeme;
-use crate::suspects::{Search, push_once};
+use crate::suspects::{SuspectSearch, push_once};
 use lx_diagnose::Span;
 use lx_diagnose::places::between;
 use lx_diagnose::scan::{is_at, part};
@@ -21,7 +21,7 @@ fn skip_caret(text: &[u8], pattern: Span) -> usize {
 
 // Adds the suspicious lexemes of a pattern, up to the first unreadable one.
 fn look_at_lexemes(
-    search: &mut Search<'_>,
+    search: &mut SuspectSearch<'_>,
     allowed: &KindSet,
     pattern: Span,
 ) -> Result<(), AllocError> {
@@ -48,11 +48,11 @@ fn look_at_lexemes(
 
 /// Examines a pattern or a substitute. Reports repeated findings in it once.
 pub(crate) fn look_at_pattern(
-    search: &mut Search<'_>,
+    search: &mut SuspectSearch<'_>,
     allowed: &KindSet,
     pattern: Span,
 ) -> Result<(), AllocError> {
-    let mut here = Search::new(search.alloc, search.text);
+    let mut here = SuspectSearch::new(search.alloc, search.text);
     look_at_lexemes(&mut here, allowed, pattern)?;
     let first = search.found.len();
     for suspect in &here.found {

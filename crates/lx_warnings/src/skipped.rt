@@ -2,7 +2,7 @@
 
 use crate::kinds::{KindSet, WarningKind};
 use crate::layout::{Layout, TextPart};
-use crate::suspects::{Search, Suspect, push_part, push_suspect, suspect_at};
+use crate::suspects::{Suspect, SuspectSearch, push_part, push_suspect, suspect_at};
 use lx_diagnose::places::between;
 use lx_diagnose::scan::{part, skip_blanks};
 use lx_ere::{EreFault, read_pattern};
@@ -78,7 +78,7 @@ fn is_rule(alloc: Global, text: &[u8]) -> Result<bool, AllocError> {
 }
 
 fn look_at_line(
-    search: &mut Search<'_>,
+    search: &mut SuspectSearch<'_>,
     allowed: &KindSet,
     suspect: Suspect,
 ) -> Result<(), AllocError> {
@@ -91,7 +91,7 @@ fn look_at_line(
 }
 
 // Examines a line of the rules section that begins with a blank. Either a rule follows the blank, or the blank is the pattern.
-fn look_at_indented(search: &mut Search<'_>, line: &TextPart) -> Result<(), AllocError> {
+fn look_at_indented(search: &mut SuspectSearch<'_>, line: &TextPart) -> Result<(), AllocError> {
     let alloc = search.alloc;
     let text = search.text;
     let end = line.at.end();
@@ -110,7 +110,10 @@ fn look_at_indented(search: &mut Search<'_>, line: &TextPart) -> Result<(), Allo
 }
 
 /// Examines the lines of the rules section that begin with a blank, and the lines after that section.
-pub(crate) fn look_at_skipped(search: &mut Search<'_>, layout: &Layout) -> Result<(), AllocError> {
+pub(crate) fn look_at_skipped(
+    search: &mut SuspectSearch<'_>,
+    layout: &Layout,
+) -> Result<(), AllocError> {
     for line in &layout.skipped {
         look_at_indented(search, line)?;
     }

@@ -29,16 +29,16 @@ pub(crate) struct Suspect {
 
 /// A search for what is suspicious in a text.
 #[derive(Drop)]
-pub(crate) struct Search<'t> {
+pub(crate) struct SuspectSearch<'t> {
     pub alloc: Global,
     pub text: &'t [u8],
     pub found: Vec<Suspect>,
 }
 
-impl<'t> Search<'t> {
+impl<'t> SuspectSearch<'t> {
     /// Returns a search that has found nothing.
-    pub fn new(alloc: Global, text: &'t [u8]) -> Search<'t> {
-        Search {
+    pub fn new(alloc: Global, text: &'t [u8]) -> SuspectSearch<'t> {
+        SuspectSearch {
             alloc,
             text,
             found: Vec::new(alloc),
@@ -58,7 +58,7 @@ pub(crate) fn suspect_at(kind: WarningKind, at: Span, phrase: &'static str) -> S
 
 /// Adds such a finding, unless its kind is allowed.
 pub(crate) fn push_part(
-    search: &mut Search<'_>,
+    search: &mut SuspectSearch<'_>,
     allowed: &KindSet,
     kind: WarningKind,
     at: Span,
@@ -69,7 +69,7 @@ pub(crate) fn push_part(
 
 /// Adds a finding, unless its kind is allowed.
 pub(crate) fn push_suspect(
-    search: &mut Search<'_>,
+    search: &mut SuspectSearch<'_>,
     allowed: &KindSet,
     suspect: Suspect,
 ) -> Result<(), AllocError> {
@@ -88,7 +88,7 @@ fn is_again(text: &[u8], suspect: &Suspect, other: &Suspect) -> bool {
 
 /// Adds a finding, unless the same one is already there from number `first` on.
 pub(crate) fn push_once(
-    search: &mut Search<'_>,
+    search: &mut SuspectSearch<'_>,
     first: usize,
     suspect: Suspect,
 ) -> Result<(), AllocError> {

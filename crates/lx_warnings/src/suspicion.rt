@@ -7,7 +7,7 @@ use crate::kinds::{KindSet, WarningKind};
 use crate::layout::{DefinitionPart, Layout, TextPart};
 use crate::pattern::look_at_pattern;
 use crate::skipped::look_at_skipped;
-use crate::suspects::{Search, Subject, Suspect, push_part, push_suspect};
+use crate::suspects::{Subject, Suspect, SuspectSearch, push_part, push_suspect};
 use crate::untaken::untaken_bytes;
 use crate::warnings::Known;
 use lx_diagnose::Span;
@@ -23,7 +23,7 @@ use std::alloc::{AllocError, Global};
 // Words after `%` that declare conditions. Any other word that begins like one also declares, but is suspicious.
 const CONDITION_WORDS: &[u8] = b" s S x X start ";
 
-fn look_at_declaration(search: &mut Search<'_>, line: &TextPart) -> Result<(), AllocError> {
+fn look_at_declaration(search: &mut SuspectSearch<'_>, line: &TextPart) -> Result<(), AllocError> {
     let text = search.text;
     let start = line.at.start.saturating_add(1);
     let word = between(start, skip_name(text, start, line.at.end()));
@@ -40,7 +40,7 @@ fn look_at_declaration(search: &mut Search<'_>, line: &TextPart) -> Result<(), A
 }
 
 fn look_at_conditions(
-    search: &mut Search<'_>,
+    search: &mut SuspectSearch<'_>,
     layout: &Layout,
     entered: &[bool],
 ) -> Result<(), AllocError> {
@@ -81,7 +81,7 @@ fn unused_phrase(alloc: Global, substitute: &[u8]) -> Result<&'static str, Alloc
 
 // Warns of a definition that isn't used.
 fn look_at_use(
-    search: &mut Search<'_>,
+    search: &mut SuspectSearch<'_>,
     spec: &Spec,
     definition: &DefinitionPart,
 ) -> Result<(), AllocError> {
@@ -106,7 +106,7 @@ fn is_shared(alloc: Global, action: &[u8]) -> Result<bool, AllocError> {
 
 // Warns of a rule in a list of conditions whose pattern is flex's `<<EOF>>`.
 fn look_at_end_rule(
-    search: &mut Search<'_>,
+    search: &mut SuspectSearch<'_>,
     allowed: &KindSet,
     pattern: Span,
     behind_bar: bool,
@@ -124,7 +124,7 @@ fn look_at_end_rule(
 }
 
 fn look_at_choice(
-    search: &mut Search<'_>,
+    search: &mut SuspectSearch<'_>,
     layout: &Layout,
     chosen: &[bool],
 ) -> Result<(), AllocError> {
@@ -143,7 +143,7 @@ fn look_at_choice(
     Ok(())
 }
 
-fn look_at_rules(search: &mut Search<'_>, layout: &Layout) -> Result<(), AllocError> {
+fn look_at_rules(search: &mut SuspectSearch<'_>, layout: &Layout) -> Result<(), AllocError> {
     let alloc = search.alloc;
     let text = search.text;
     let mut behind_bar = false;
@@ -167,7 +167,7 @@ fn condition_part(layout: &Layout, condition: u16) -> Option<&TextPart> {
 
 // Warns of the bytes that no rule takes in a condition.
 fn look_at_untaken(
-    search: &mut Search<'_>,
+    search: &mut SuspectSearch<'_>,
     layout: &Layout,
     tables: &Tables,
     condition: u16,
@@ -191,7 +191,7 @@ fn look_at_untaken(
 }
 
 fn look_at_all_untaken(
-    search: &mut Search<'_>,
+    search: &mut SuspectSearch<'_>,
     layout: &Layout,
     known: &Known<'_>,
 ) -> Result<(), AllocError> {
@@ -205,7 +205,7 @@ fn look_at_all_untaken(
 
 // Warns of rules for which runs of a byte are read to their end without a match.
 fn look_at_runs(
-    search: &mut Search<'_>,
+    search: &mut SuspectSearch<'_>,
     layout: &Layout,
     known: &Known<'_>,
 ) -> Result<(), AllocError> {
@@ -226,7 +226,7 @@ fn look_at_runs(
 
 // Examines the substitutes of definitions. If the specification is known, skips those that it doesn't use.
 fn look_at_substitutes(
-    search: &mut Search<'_>,
+    search: &mut SuspectSearch<'_>,
     layout: &Layout,
     spec: Option<&Spec>,
 ) -> Result<(), AllocError> {
@@ -246,7 +246,7 @@ fn look_at_substitutes(
 
 /// Finds what is suspicious in single lines of a text. The specification is unknown if the text is rejected.
 pub(crate) fn look_at_lines(
-    search: &mut Search<'_>,
+    search: &mut SuspectSearch<'_>,
     layout: &Layout,
     spec: Option<&Spec>,
 ) -> Result<(), AllocError> {
@@ -260,7 +260,7 @@ pub(crate) fn look_at_lines(
 
 /// Finds what is suspicious in the parts of a text. Examines runs of a byte only if asked, since this takes long.
 pub(crate) fn look_at_text(
-    search: &mut Search<'_>,
+    search: &mut SuspectSearch<'_>,
     asked: &KindSet,
     layout: &Layout,
     known: &Known<'_>,

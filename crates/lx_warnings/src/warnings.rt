@@ -8,7 +8,7 @@ ghost use Rattle.lx_warnings.specs.Told.{IsTold};
 use crate::kinds::{KindSet, WarningKind};
 use crate::layout::layout_of;
 use crate::never_chosen::phrase_and_example;
-use crate::suspects::{Search, Subject, Suspect};
+use crate::suspects::{Subject, Suspect, SuspectSearch};
 use crate::suspicion::{look_at_lines, look_at_text};
 use crate::untaken::untaken_bytes;
 use lx_diagnose::TextPlace;
@@ -181,7 +181,7 @@ pub fn warnings_of(
     ensures most { IfOk result (λ warnings. length warnings.told.items ≡ min warnings.count most) }
 {
     let layout = layout_of(alloc, text)?;
-    let mut search = Search::new(alloc, text);
+    let mut search = SuspectSearch::new(alloc, text);
     look_at_text(&mut search, asked, &layout, known)?;
     search.found.sort_by_key(|suspect| suspect.at.start)?;
     first_findings(alloc, text, Some(known), &search.found, asked, most)
@@ -219,7 +219,7 @@ pub fn warnings_of_rejected(
     ensures most { IfOk result (λ warnings. length warnings.told.items ≡ min warnings.count most) }
 {
     let layout = layout_of(alloc, text)?;
-    let mut search = Search::new(alloc, text);
+    let mut search = SuspectSearch::new(alloc, text);
     look_at_lines(&mut search, &layout, None)?;
     let mut kept = off_lines(alloc, text, &search.found, lines)?;
     kept.sort_by_key(|suspect| suspect.at.start)?;
