@@ -12,7 +12,7 @@ fn reply_of(collector: &mut Collector, piece: Piece) -> Reply
     ensures { length collector.new.buffers ≡ length collector.old.buffers }
 {
     match collector.offer(piece) {
-        Ok(()) => Reply::AcceptedParts,
+        Ok(()) => Reply::Accepted,
         Err(refused) => Reply::Refused(refused.why),
     }
 }
@@ -91,7 +91,7 @@ fn fresh_collector<R: Abort + AllocGlobal>(rt: &R, files: u32) -> Collector
     Collector::new(rt.alloc(), 1, files).expect(rt, "memory")
 }
 
-const ACCEPTED: Reply = Reply::AcceptedParts;
+const ACCEPTED: Reply = Reply::Accepted;
 
 const DOUBLE: Reply = Reply::Refused(Why::Double);
 
@@ -293,7 +293,7 @@ fn plain_reply(before: &[AcceptedParts], run: u64, p: AcceptedParts) -> Reply {
     } else if p.mark != Mark::More && is_any_above(before, p.file, p.number) {
         Reply::Refused(Why::Contradicts)
     } else {
-        Reply::AcceptedParts
+        Reply::Accepted
     }
 }
 
@@ -395,7 +395,7 @@ fn answers_as_defined<R: Abort + AllocGlobal>(
     let wanted = plain_reply(accepted, run, next);
     let offered = piece(rt.alloc(), run, next.file, next.number, next.mark);
     holds(rt, reply_of(collector, offered) == wanted, u64::from(list));
-    if wanted == Reply::AcceptedParts {
+    if wanted == Reply::Accepted {
         accepted.push(next).expect(rt, "memory");
     }
 }

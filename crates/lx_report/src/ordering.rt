@@ -3,7 +3,7 @@
 use crate::repeated::new_findings;
 use crate::subject::ReportSubject;
 use crate::warnings::MOST_TOLD;
-use lx_check::Finding;
+use lx_check::TextFault;
 use lx_spec::Code;
 use lx_warnings::{Warning, Warnings, warnings_of_rejected};
 use std::alloc::{AllocError, Global};
@@ -11,7 +11,7 @@ use std::alloc::{AllocError, Global};
 /// An entry after the first error of a text that is rejected.
 #[derive(Clone, Copy)]
 pub(crate) enum Entry {
-    Error(Finding),
+    Error(TextFault),
     /// Number of a warning.
     Warning(usize),
 }
@@ -27,17 +27,17 @@ pub(crate) struct Rest {
 }
 
 /// Returns the line of a finding, or 0 if it has none.
-fn line_of(finding: &Finding) -> u32 {
+fn line_of(finding: &TextFault) -> u32 {
     match finding {
-        Finding::Specification(fault) => fault.line,
-        Finding::TooManyPositions | Finding::TooManySets => 0,
+        TextFault::Specification(fault) => fault.line,
+        TextFault::TooManyPositions | TextFault::TooManySets => 0,
     }
 }
 
 // Returns true if the sections of the text are well-formed, so that its rules and definitions are known.
-fn has_sections(first: Finding) -> bool {
+fn has_sections(first: TextFault) -> bool {
     match first {
-        Finding::Specification(fault) => matches!(
+        TextFault::Specification(fault) => matches!(
             fault.code,
             Code::NoReading
                 | Code::Undefined
@@ -46,12 +46,16 @@ fn has_sections(first: Finding) -> bool {
                 | Code::NoAction
                 | Code::NoNext
         ),
-        Finding::TooManyPositions | Finding::TooManySets => true,
+        TextFault::TooManyPositions | TextFault::TooManySets => true,
     }
 }
 
 // Collects the lines of errors.
-fn error_lines(alloc: Global, first: Finding, more: &[Finding]) -> Result<Vec<u32>, AllocError> {
+fn error_lines(
+    alloc: Global,
+    first: TextFault,
+    more: &[TextFault],
+) -> Result<Vec<u32>, AllocError> {
     let mut lines = Vec::new(alloc);
     lines.push(line_of(&first))?;
     for finding in more {
@@ -64,8 +68,8 @@ fn error_lines(alloc: Global, first: Finding, more: &[Finding]) -> Result<Vec<u3
 fn warnings_of_refused(
     alloc: Global,
     subject: &ReportSubject<'_>,
-    first: Finding,
-    more: &[Finding],
+    first: TextFault,
+    more: &[TextFault],
 ) -> Result<Warnings, AllocError> {
     if !has_sections(first) {
         return Ok(Warnings {
@@ -96,7 +100,7 @@ fn push_before(
 // Merges errors and warnings in the order of their lines.
 fn entries_of(
     alloc: Global,
-    errors: &[Finding],
+    errors: &[TextFault],
     warnings: &[Warning],
 ) -> Result<Vec<Entry>, AllocError> {
     let mut entries = Vec::new(alloc);
@@ -115,8 +119,8 @@ fn entries_of(
 pub(crate) fn rest_of(
     alloc: Global,
     subject: &ReportSubject<'_>,
-    first: Finding,
-    more: &[Finding],
+    first: TextFault,
+    more: &[TextFault],
 ) -> Result<Rest, AllocError> {
     let new = new_findings(alloc, subject.source, first, more)?;
     let warnings = warnings_of_refused(alloc, subject, first, more)?;

@@ -6,7 +6,7 @@ ghost use Rattle.lx_report.specs.Said.{Extends};
 ghost use Rattle.lx_report.specs.Bytes.{shown_byte};
 ghost use Rattle.lx_report.specs.Lines.{finding_line};
 
-use crate::{Finding, Severity, TextPlace, push_finding, push_marked, push_number, push_shown};
+use crate::{Finding, ReportPlace, Severity, push_finding, push_marked, push_number, push_shown};
 use lx_diagnose::{TextPlace, line_bytes};
 use std::alloc::{AllocError, Global};
 
@@ -32,10 +32,10 @@ pub(crate) fn push_shown_and(
 }
 
 /// Converts the place of a diagnosis.
-pub(crate) fn place_of(place: &TextPlace) -> TextPlace
+pub(crate) fn place_of(place: &TextPlace) -> ReportPlace
     ensures { result.line ≡ place.now.line }
 {
-    TextPlace {
+    ReportPlace {
         line: u64::from(place.line),
         column: place.column as u64,
         width: place.width as u64,
@@ -47,7 +47,7 @@ pub(crate) fn push_line(
     text: &mut Vec<u8>,
     file: &[u8],
     severity: Severity,
-    place: TextPlace,
+    place: ReportPlace,
     code: &[u8],
     words: &[u8],
     name: &[u8],
@@ -69,7 +69,7 @@ pub(crate) fn push_line(
 pub(crate) fn push_note(
     text: &mut Vec<u8>,
     file: &[u8],
-    place: TextPlace,
+    place: ReportPlace,
     words: &[u8],
 ) -> Result<(), AllocError>
     ensures { OnOk result (Extends text.old.items text.new.items) }

@@ -1,6 +1,6 @@
 //! Faults that repeat what an earlier one says.
 
-use lx_check::Finding;
+use lx_check::TextFault;
 use lx_diagnose::causes::LineCause;
 use lx_diagnose::scan::part;
 use lx_diagnose::{Cause, Diagnosis, TextPlace, diagnose};
@@ -41,9 +41,9 @@ fn note_as_new(
     alloc: Global,
     source: &[u8],
     told: &mut Vec<Diagnosis>,
-    finding: Finding,
+    finding: TextFault,
 ) -> Result<bool, AllocError> {
-    let Finding::Specification(fault) = finding else {
+    let TextFault::Specification(fault) = finding else {
         return Ok(true);
     };
     let diagnosis = diagnose(alloc, source, fault)?;
@@ -67,9 +67,9 @@ fn are_tables(told: &[Diagnosis]) -> bool {
 pub(crate) fn new_findings(
     alloc: Global,
     source: &[u8],
-    first: Finding,
-    more: &[Finding],
-) -> Result<Vec<Finding>, AllocError> {
+    first: TextFault,
+    more: &[TextFault],
+) -> Result<Vec<TextFault>, AllocError> {
     let mut told = Vec::new(alloc);
     note_as_new(alloc, source, &mut told, first)?;
     let mut new = Vec::new(alloc);

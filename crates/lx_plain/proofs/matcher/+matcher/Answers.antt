@@ -90,8 +90,8 @@ ends-returns-in-None t c =
     (ends_then (Repeats L low) (AnyNumber L) c.args.text.now c.args.starts.now c.in_ok-owed-in-Times.owed ends (rw c.deref-in-Times.ensures at c.in_ok-owed-in-Times.ensures) any))
     (rw c.deref-in-None.ensures at c.any_number.ensures))
 
-pub ends-at_most-requires : goal.ends-at_most-requires
-ends-at_most-requires t c = (search rules, ends_within _ c.args.text.now c.args.starts.now c.in_ok-owed-in-Times.owed c.requires c.in_ok-owed-in-Times.ensures)
+pub ends-reach_of_words-requires : goal.ends-reach_of_words-requires
+ends-reach_of_words-requires t c = (search rules, ends_within _ c.args.text.now c.args.starts.now c.in_ok-owed-in-Times.owed c.requires c.in_ok-owed-in-Times.ensures)
 
 pub ends-returns-in-Times : goal.ends-returns-in-Times
 ends-returns-in-Times t c =

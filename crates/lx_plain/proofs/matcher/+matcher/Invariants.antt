@@ -33,8 +33,8 @@ invariant-exactly-loop-round l = record {
   ends : AreEnds (Repeats (Matches (NameMatches (map definition_view l.definitions) l.depth) (regex_of l.body)) l._round) l.text l.starts l.places;
 }
 
-abbrev pub invariant-at_most-loop-round : goal.invariant-at_most-loop-round
-invariant-at_most-loop-round l = record {
+abbrev pub invariant-reach_of_words-loop-round : goal.invariant-reach_of_words-loop-round
+invariant-reach_of_words-loop-round l = record {
   within : AreWithin l.text l.places;
   ends : AreEnds (Repeats (Matches (NameMatches (map definition_view l.definitions) l.depth) (regex_of l.body)) l._round) l.text l.starts l.places;
   reached : AreEnds (AtMost (Matches (NameMatches (map definition_view l.definitions) l.depth) (regex_of l.body)) l._round) l.text l.starts l.reached;
