@@ -1,7 +1,6 @@
 -- A line in JSON of its parts.
-use Rattle.std.proofs.Common.{◌≡◌, ℕ, ◌+◌, ◌-◌, Bool, true, false, if◌then◌else◌, List, [], ◌∷◌, ◌++◌, take, drop, refl, sym, ◌∙◌, ap, arith, append_assoc, append-nil}
+use Rattle.std.proofs.Common.{◌≡◌, ℕ, ◌+◌, ◌-◌, Bool, true, false, if◌then◌else◌, List, [], ◌++◌, take, drop, refl, sym, ◌∙◌, ap, arith, append_assoc}
 use Rattle.std.specs.Prelude.{Option, codes, decimal}
-use Rattle.std.specs.List.{flat_map}
 use Rattle.std.specs.Str.{is_utf8}
 use Rattle.lx_rules.specs.declared.rule.Kind.{Kind}
 use Rattle.lx_scan.specs.declared.item.Item.{Item}
@@ -9,9 +8,9 @@ use Rattle.lx_scan.specs.declared.item.Item.TheVariants.{Token, Echo}
 use Rattle.lx_scan.specs.ItemParts.{kind_of_item, line_of as line_number, start_of, len_of, text_of}
 use Rattle.lx_piece.specs.Plans.{Planned, bytes_of}
 use Rattle.lx_line.specs.Placed.{Placed}
-use Rattle.lx_line.proofs.Places.{Placed-then}
-use Rattle.lx_forms.specs.Forms.{PlainForm, passes}
-use Rattle.lx_forms.specs.FormListings.{line_by, line_in, lines_in}
+use Rattle.lx_line.proofs.Places.{Placed-is, Placed-then}
+use Rattle.lx_forms.specs.Forms.{PlainForm}
+use Rattle.lx_forms.specs.FormStyles.{prefix_by, prefix_in}
 use Rattle.lx_forms.specs.JsonFields.{numbers_text, string_member}
 use Rattle.lx_forms.specs.JsonLines.{bytes_member, file_members, json_line, kind_value, text_member}
 use Rattle.lx_forms.specs.declared.format.Format.{Format}
@@ -66,23 +65,12 @@ rest_is form plan file item line start len bytes utf8 l s n t =
     ∙ sym (append_assoc numbers (text_member form (text_of bs item)) (codes "}\n"))
 
 pub line_placed : {a b c d e : List ℕ} {at i j k end : ℕ} (form : PlainForm) (plan : Planned) (file : ℕ) (item : Item) (kind : Option Kind) (line start len : ℕ) (bytes : List ℕ) →
-    Placed a b at (json_prefix form plan file kind) i → Placed b c i (numbers_text line start len) j → Placed c d j (string_member form.text (take len (drop start bytes))) k → Placed d e k (codes "}\n") end →
+    form.format ≡ Json → Placed a b at (prefix_in form plan file kind) i → Placed b c i (numbers_text line start len) j → Placed c d j (string_member form.text (take len (drop start bytes))) k → Placed d e k (codes "}\n") end →
     (form.text ≡ true → is_utf8 (take len (drop start bytes)) ≡ true) → kind ≡ kind_of_item item → line ≡ line_number item → start ≡ start_of item → len ≡ len_of item → bytes ≡ bytes_of plan file →
     take end e ≡ take at a ++ json_line form plan file item
-line_placed {a} {b} {c} {d} {e} {at} form plan file item kind line start len bytes p q r s utf8 same l m n t =
-    (Placed-then p (Placed-then q (Placed-then r s))).bytes
+line_placed {a} {b} {c} {d} {e} {at} form plan file item kind line start len bytes json p q r s utf8 same l m n t =
+    let prefix = Placed-is p (ap (λ (format : Format). prefix_by format form plan file kind) json) in
+    (Placed-then prefix (Placed-then q (Placed-then r s))).bytes
     ∙ ap (λ (k : Option Kind). take at a ++ (json_prefix form plan file k ++ (numbers_text line start len ++ (string_member form.text (take len (drop start bytes)) ++ codes "}\n")))) same
     ∙ ap (λ (rest : List ℕ). take at a ++ (json_prefix form plan file (kind_of_item item) ++ rest)) (rest_is form plan file item line start len bytes utf8 l m n t)
     ∙ ap (λ (bs : List ℕ). take at a ++ bs) (prefix_and_rest form plan file item)
-
--- the lines of one item that isn't printed, and of one that is
-pub line_none : (form : PlainForm) (plan : Planned) (file : ℕ) (item : Item) → passes form item ≡ false → lines_in form plan file (item ∷ []) ≡ []
-unfolding lines_in
-line_none form plan file item e = rw e refl
-
-pub line_one : (form : PlainForm) (plan : Planned) (file : ℕ) (item : Item) → form.format ≡ Json → passes form item ≡ true → lines_in form plan file (item ∷ []) ≡ json_line form plan file item
-unfolding lines_in
-line_one form plan file item json e =
-    ap (λ (b : Bool). flat_map (line_in form plan file) (if b then item ∷ [] else [])) e
-    ∙ append-nil (line_in form plan file item)
-    ∙ ap (λ (format : Format). line_by format form plan file item) json

@@ -1,16 +1,14 @@
 pub mod Alike
 pub mod Bare
 pub mod Choices
-pub mod FormTurning
 pub mod Joining
 pub mod JsonDocuments
 pub mod JsonNumbers
 pub mod JsonPlaced
-pub mod JsonPrefixed
 pub mod JsonRead
 pub mod JsonStrings
 pub mod KindWords
-pub mod Parts
+pub mod TextPlaced
 pub mod PlainStrings
 pub mod NamesFront
 pub mod NamesRead

@@ -1,6 +1,6 @@
 -- The bytes of a text that a string shows unescaped, and those that are ASCII.
 use Rattle.std.proofs.Common.{◌≡◌, ℕ, zero, suc, ◌%◌, ◌^◌, ◌<◌, ◌≤◌, Bool, true, false, not, cond, ◌||◌, eqb, ltb, List, [], ◌∷◌, length, take, map, replicate, refl, ap, ◌∙◌, subst, arith, take-take, length-take-le}
-use Rattle.std.specs.List.{flat_map, prefix_len}
+use Rattle.std.specs.List.{prefix_len}
 use Rattle.std.specs.Int.Bits.{bit_or}
 use Rattle.std.specs.Str.{IsAscii, is_utf8}
 use Rattle.std.proofs.lemmas.List.{length-map}
@@ -8,10 +8,10 @@ use Rattle.std.proofs.lemmas.Simd.{mask_l-mod}
 use Rattle.std.proofs.lemmas.Str.{IsUtf8-from_ascii, is_utf8-from_IsUtf8}
 use lib.Count.{count_trailing_zeros}
 use lib.Lanes.{mask_l, top, zip2}
-use Rattle.lx_line.proofs.Unescaped.{before_first, plain_run, plain_step}
+use Rattle.lx_line.proofs.Unescaped.{before_first, plain_step}
 use Rattle.lx_forms.specs.JsonLines.{string_escaped}
 
-abbrev is_escaped : ℕ → Bool
+abbrev pub is_escaped : ℕ → Bool
 is_escaped x = (ltb x 32 || eqb x 34) || eqb x 92
 
 -- the result of three comparisons of a lane, in its top bit
@@ -37,18 +37,13 @@ lanes n [] e = refl
 lanes zero (x ∷ xs) e = absurd (omega arith)
 lanes (suc n) (x ∷ xs) e = ap (λ (b : Bool). b ∷ map (top 7) (compared n xs)) (one_lane (ltb x 32) (eqb x 34) (eqb x 92)) ∙ ap (λ (bs : List Bool). is_escaped x ∷ bs) (lanes n xs (omega arith))
 
-mask_of : (xs : List ℕ) → length xs ≡ 16 → mask_l (map (top 7) (compared 16 xs)) % 2 ^ 64 ≡ mask_l (map is_escaped xs)
+pub mask_of : (xs : List ℕ) → length xs ≡ 16 → mask_l (map (top 7) (compared 16 xs)) % 2 ^ 64 ≡ mask_l (map is_escaped xs)
 mask_of xs e =
     ap (λ (ms : List Bool). mask_l ms % 2 ^ 64) (lanes 16 xs e)
     ∙ mask_l-mod (map is_escaped xs) 64 (omega (arith, length-map xs is_escaped))
 
-as_it_is : (x : ℕ) → is_escaped x ≡ false → string_escaped x ≡ x ∷ []
+pub as_it_is : (x : ℕ) → is_escaped x ≡ false → string_escaped x ≡ x ∷ []
 as_it_is x e = grind arith
-
-pub plain_lanes : (xs : List ℕ) (n : ℕ) → 16 ≤ length xs → n ≤ 16 → n ≤ count_trailing_zeros 64 (mask_l (map (top 7) (compared 16 (take 16 xs))) % 2 ^ 64) → flat_map string_escaped (take n xs) ≡ take n xs
-plain_lanes xs n long few h =
-    let whole : length (take 16 xs) ≡ 16 = length-take-le 16 xs long in
-    plain_run is_escaped string_escaped as_it_is xs n long few (subst (λ (k : ℕ). n ≤ count_trailing_zeros 64 k) (mask_of (take 16 xs) whole) h)
 
 abbrev is_high : ℕ → Bool
 is_high x = ltb 127 x

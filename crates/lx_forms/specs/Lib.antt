@@ -1,10 +1,9 @@
 pub mod Choosing
 pub mod Forms
 pub mod FormLaws
-pub mod FormListed
 pub mod FormListings
-pub mod FormPrinting
-pub mod FormPrintingLaws
+pub mod FormStyles
+pub mod FormStyleLaws
 pub mod JsonFields
 pub mod JsonLines
 pub mod JsonParts

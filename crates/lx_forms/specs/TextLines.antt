@@ -1,5 +1,5 @@
 -- The lines of a listing in the form of lines: as without options, except for the file and the text.
-use Rattle.std.specs.Prelude.{ℕ, ◌==◌, if◌then◌else◌, List, [], ◌++◌, codes, decimal}
+use Rattle.std.specs.Prelude.{ℕ, if◌then◌else◌, List, [], ◌++◌, codes, decimal}
 use Rattle.std.specs.List.{flat_map}
 use Rattle.std.specs.Option.{option_map_or}
 use Rattle.lx_scan.specs.declared.item.Item.{Item}
@@ -7,11 +7,9 @@ use Rattle.lx_scan.specs.ItemParts.{line_of as line_number, start_of, len_of, te
 use Rattle.lx_piece.specs.Plans.{Planned, bytes_of}
 use Rattle.lx_line.specs.Lines.{class_text, kind_text}
 use Rattle.lx_line.specs.Escapes.{escaped}
+-- the escape of names
+pub use Rattle.lx_line.specs.Escapes.{name_escaped}
 use Rattle.lx_forms.specs.Forms.{PlainForm, name_of, number_in}
-
--- a byte of a name in a line: a blank as two digits, and any other byte like one of a text
-abbrev pub name_escaped : ℕ → List ℕ
-name_escaped byte = if byte == 32 then codes "\\x20" else escaped byte
 
 -- the file: its name if names are printed, otherwise its number
 abbrev pub file_text : PlainForm → ℕ → List ℕ

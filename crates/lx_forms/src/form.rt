@@ -1,12 +1,12 @@
 //! The form in which a listing is printed.
 
-ghost use Rattle.std.specs.Prelude.{◌≡◌, IsTrue, map};
+ghost use Rattle.std.specs.Prelude.{◌≡◌, ◌<◌, ◌^◌, IsTrue, map};
 ghost use Rattle.lx_forms.specs.Forms.{bare_form, name_of, number_in, passes};
 ghost use Rattle.lx_forms.specs.Views.{form_view};
 
 use crate::format::Format;
 use crate::selection::Selection;
-use lx_scan::Item;
+use lx_scan::{FlatItem, Item};
 
 /// The form of a listing.
 #[derive(Debug, Drop)]
@@ -59,9 +59,22 @@ impl<'a> Form<'a> {
         }
     }
 
+    /// Returns true if a flat item is printed.
+    #[inline(always)]
+    #[tactic(auto, unfolding(crate::specs::Forms::passes))]
+    pub(crate) fn passes_flat(&self, item: &FlatItem) -> bool
+        ensures { result ≡ passes (form_view self.now) item.now }
+    {
+        if self.only.is_none() {
+            return true;
+        }
+        self.passes(&item.item())
+    }
+
     /// Returns the number of a file.
     pub(crate) fn number_of(&self, file: u32) -> u64
-        ensures { result ≡ number_in (form_view self.now) file }
+        ensures number { result ≡ number_in (form_view self.now) file }
+        ensures few { result < 10 ^ 18 }
     {
         u64::from(self.first) + u64::from(file)
     }

@@ -1,26 +1,39 @@
-//! Appends JSON lines of a listing to a block. If an allocation fails, a part of a line was appended.
+//! Makes lines in JSON in a form.
 
-ghost use Rattle.std.specs.Prelude.{◌≡◌, ◌<◌, ◌≤◌, ◌++◌, OnOk, codes, decimal, length};
+ghost use Rattle.std.specs.Prelude.{◌≡◌, ◌+◌, ◌*◌, ◌^◌, ◌<◌, ◌≤◌, ◌++◌, IsTrue, MatchOption, OnOk, codes, decimal, drop, length, take};
 ghost use Rattle.std.specs.List.{flat_map};
+ghost use Rattle.lx_rules.specs.declared.rule.Kind.{Kind};
 ghost use Rattle.lx_scan.specs.ItemParts.{IsItemOf, IsKindAmong, LiesIn};
 ghost use Rattle.lx_piece.specs.Plans.{bytes_of, files_of, kinds_of};
-ghost use Rattle.lx_line.specs.Prefixes.{IsKindOf};
-ghost use Rattle.lx_forms.specs.JsonFields.{numbers_text};
-ghost use Rattle.lx_forms.specs.JsonLines.{bytes_member, file_members, hex_pair, json_cut_line, json_line, kind_value, name_member, string_escaped, string_of, text_member};
+ghost use Rattle.lx_line.specs.Fields.{AreKept};
+ghost use Rattle.lx_line.specs.Placed.{Placed};
+ghost use Rattle.lx_line.specs.Prefixes.{ArePrefixesOf, IsKindOf};
+ghost use Rattle.lx_forms.specs.declared.format.Format.{Format};
+ghost use Rattle.lx_forms.specs.Forms.{number_in};
+ghost use Rattle.lx_forms.specs.FormStyles.{prefix_in};
+ghost use Rattle.lx_forms.specs.JsonFields.{IsShortText, numbers_text, string_member};
+ghost use Rattle.lx_forms.specs.JsonLines.{bytes_member, file_members, hex_pair, json_cut_line, json_line, kind_value, name_member, string_of, text_member};
 ghost use Rattle.lx_forms.specs.JsonParts.{json_prefix, rest_of_line, sort_text};
 ghost use Rattle.lx_forms.specs.Views.{form_view};
 
 use crate::form::{Form, name_of};
-use crate::strings::{is_text, place_string, small_digit};
+use crate::strings::{StringEscape, is_text, is_text_at, place_string, small_digit};
+use crate::style::FormStyle;
 use crate::text_lines::text_in;
-use lx_line::{Numbers, kind_of, numbers_of, push_number};
+use lx_line::{
+    Digits, Draft, Numbers, fits, kind_of, numbers_in, numbers_of, place_4, place_16, place_all,
+    place_byte, place_number, place_small, place_text, push_number, push_text,
+};
 use lx_piece::Plan;
 use lx_rules::rule::Kind;
-use lx_scan::Item;
+use lx_scan::{FlatItem, Item};
 use std::alloc::AllocError;
 
-// Number of bytes of a string that are placed at a time.
-const PART: usize = 32;
+// Greatest length of the name of a file in a kept prefix.
+const NAME: usize = 96;
+
+// Greatest length of the name of a kind in a kept prefix.
+const KIND: usize = 40;
 
 // Appends a byte as two digits.
 fn push_hex_pair(block: &mut Vec<u8>, byte: u8) -> Result<(), AllocError>
@@ -38,36 +51,11 @@ fn push_hex(block: &mut Vec<u8>, bytes: &[u8]) -> Result<(), AllocError>
     Ok(())
 }
 
-// Appends at most 32 bytes of a string. Works on a copy with 16 more bytes, which can be read too.
-fn push_part(block: &mut Vec<u8>, bytes: &[u8]) -> Result<(), AllocError>
-    requires { length bytes.now ≤ 32 }
-    ensures { OnOk result (block.new.items ≡ block.old.items ++ flat_map string_escaped bytes.now) }
-{
-    let mut text = [0; 48];
-    text[..bytes.len()].copy_from_slice(bytes);
-    let mut placed = [0; 208];
-    let end = place_string(&mut placed, 0, &text, 0, bytes.len());
-    block.extend_from_slice(&placed[..end])
-}
-
-// Appends the bytes between the quotes of a string.
-fn push_string_bytes(block: &mut Vec<u8>, bytes: &[u8]) -> Result<(), AllocError>
-    ensures { OnOk result (block.new.items ≡ block.old.items ++ flat_map string_escaped bytes.now) }
-{
-    let mut done = 0;
-    while done < bytes.len() {
-        let end = done + PART.min(bytes.len() - done);
-        push_part(block, &bytes[done..end])?;
-        done = end;
-    }
-    Ok(())
-}
-
 fn push_string(block: &mut Vec<u8>, bytes: &[u8]) -> Result<(), AllocError>
     ensures { OnOk result (block.new.items ≡ block.old.items ++ string_of bytes.now) }
 {
     block.extend_from_slice(b"\"")?;
-    push_string_bytes(block, bytes)?;
+    push_text::<StringEscape>(block, bytes)?;
     block.extend_from_slice(b"\"")?;
     Ok(())
 }
@@ -147,8 +135,8 @@ fn push_sort(block: &mut Vec<u8>, plan: &Plan, kind: Option<Kind>) -> Result<(),
     }
 }
 
-/// Appends the part of a line before the number of the line.
-pub(crate) fn push_prefix(
+// Appends the part of a line before the number of the line.
+fn push_prefix(
     block: &mut Vec<u8>,
     form: &Form<'_>,
     plan: &Plan,
@@ -179,7 +167,7 @@ fn push_numbers(block: &mut Vec<u8>, numbers: Numbers) -> Result<(), AllocError>
 }
 
 // Appends a text, if texts are printed.
-fn push_text(block: &mut Vec<u8>, form: &Form<'_>, text: &[u8]) -> Result<(), AllocError>
+fn push_printed(block: &mut Vec<u8>, form: &Form<'_>, text: &[u8]) -> Result<(), AllocError>
     ensures { OnOk result
         (block.new.items ≡ block.old.items ++ text_member (form_view form.now) text.now) }
 {
@@ -189,8 +177,8 @@ fn push_text(block: &mut Vec<u8>, form: &Form<'_>, text: &[u8]) -> Result<(), Al
     push_bytes_member(block, b",\"text\":", b",\"hex\":", text)
 }
 
-/// Appends the part of a line after the prefix.
-pub(crate) fn push_rest(
+// Appends the part of a line after the prefix.
+fn push_rest(
     block: &mut Vec<u8>,
     form: &Form<'_>,
     plan: &Plan,
@@ -203,7 +191,7 @@ pub(crate) fn push_rest(
         ≡ block.old.items ++ rest_of_line (form_view form.now) plan.now file item.now) }
 {
     push_numbers(block, numbers_of(item))?;
-    push_text(block, form, text_in(plan, file, item))?;
+    push_printed(block, form, text_in(plan, file, item))?;
     block.extend_from_slice(b"}\n")?;
     Ok(())
 }
@@ -239,4 +227,213 @@ pub(crate) fn push_json_cut_line(
     push_file(block, form, file)?;
     block.extend_from_slice(b",\"cut\":true}\n")?;
     Ok(())
+}
+
+// Places a number.
+fn place_decimal(buf: &mut [u8], at: usize, number: u64) -> usize
+    requires room { at + 20 ≤ length buf.old }
+    requires few { number < 10 ^ 18 }
+    ensures placed { Placed buf.old buf.new at (decimal number) result }
+    ensures short { result ≤ at + 18 }
+{
+    place_number(buf, at, number) - 1
+}
+
+// Places the number of a file.
+fn place_head(buf: &mut [u8], form: &Form<'_>, file: u32) -> usize
+    requires { 1024 ≤ length buf.old }
+    ensures placed { Placed buf.old buf.new 0
+        (codes "{\"file\":" ++ decimal (number_in (form_view form.now) file)) result }
+    ensures short { result ≤ 32 }
+{
+    let at = place_all(buf, 0, b"{\"file\":");
+    place_decimal(buf, at, form.number_of(file))
+}
+
+// Places the name of a file. Returns `None` if it is too long, or not UTF-8.
+fn place_name_string(buf: &mut [u8], at: usize, name: &[u8]) -> Option<usize>
+    requires { at + 640 ≤ length buf.old }
+    ensures placed { MatchOption result (Unit {0}) (λ end. Placed buf.old buf.new at
+        (bytes_member (codes ",\"name\":") (codes ",\"name_hex\":") name.now) end) }
+    ensures short { MatchOption result (Unit {0}) (λ end. end ≤ at + 640) }
+{
+    if name.len() > NAME || !is_text(name) {
+        return None;
+    }
+    let at = place_all(buf, at, b",\"name\":");
+    Some(place_string(buf, at, name))
+}
+
+// Places the name of a file, if names are printed. Returns `None` if it is too long, or not UTF-8.
+fn place_name(buf: &mut [u8], at: usize, form: &Form<'_>, file: u32) -> Option<usize>
+    requires { at + 640 ≤ length buf.old }
+    ensures placed { MatchOption result (Unit {0})
+        (λ end. Placed buf.old buf.new at (name_member (form_view form.now) file) end) }
+    ensures short { MatchOption result (Unit {0}) (λ end. end ≤ at + 640) }
+{
+    match form.names {
+        Some(names) => place_name_string(buf, at, name_of(names, file)),
+        None => Some(at),
+    }
+}
+
+// Places the name of a kind, or its number. Returns `None` if the name is too long.
+fn place_kind_value(buf: &mut [u8], at: usize, plan: &Plan, kind: Kind) -> Option<usize>
+    requires room { at + 280 ≤ length buf.old }
+    requires kind { IsKindAmong (kinds_of plan.now) kind }
+    ensures placed { MatchOption result (Unit {0})
+        (λ end. Placed buf.old buf.new at (kind_value plan.now kind) end) }
+    ensures short { MatchOption result (Unit {0}) (λ end. end ≤ at + 280) }
+{
+    match kind {
+        Kind::Number(number) => Some(place_decimal(buf, at, u64::from(number))),
+        Kind::Name(place) => {
+            let name = plan.kind(place);
+            if name.len() > KIND {
+                return None;
+            }
+            Some(place_string(buf, at, name))
+        }
+    }
+}
+
+// Places the kind of a token. Returns `None` if its name is too long.
+fn place_token(buf: &mut [u8], at: usize, plan: &Plan, kind: Kind) -> Option<usize>
+    requires room { at + 288 ≤ length buf.old }
+    requires kind { IsKindAmong (kinds_of plan.now) kind }
+    ensures placed { MatchOption result (Unit {0})
+        (λ end. Placed buf.old buf.new at (codes ",\"kind\":" ++ kind_value plan.now kind) end) }
+    ensures short { MatchOption result (Unit {0}) (λ end. end ≤ at + 288) }
+{
+    let at = place_all(buf, at, b",\"kind\":");
+    let Some(at) = place_kind_value(buf, at, plan, kind) else {
+        return None;
+    };
+    Some(at)
+}
+
+// Places the kind of a token, or `"echo":true`. Returns `None` if the name of the kind is too long.
+fn place_sort(buf: &mut [u8], at: usize, plan: &Plan, kind: Option<Kind>) -> Option<usize>
+    requires room { at + 288 ≤ length buf.old }
+    requires kind { IsKindOf plan.now kind }
+    ensures placed { MatchOption result (Unit {0})
+        (λ end. Placed buf.old buf.new at (sort_text plan.now kind) end) }
+    ensures short { MatchOption result (Unit {0}) (λ end. end ≤ at + 288) }
+{
+    match kind {
+        Some(kind) => place_token(buf, at, plan, kind),
+        None => Some(place_all(buf, at, b",\"echo\":true")),
+    }
+}
+
+/// Places the part of a line before the number of the line. Returns `None` if it is too long.
+pub(crate) fn place_json_prefix(
+    form: &Form<'_>,
+    buf: &mut [u8],
+    plan: &Plan,
+    file: u32,
+    kind: Option<Kind>,
+) -> Option<usize>
+    requires room { 1024 ≤ length buf.old }
+    requires kind { IsKindOf plan.now kind }
+    ensures { MatchOption result (Unit {0}) (λ end.
+        Placed buf.old buf.new 0 (json_prefix (form_view form.now) plan.now file kind) end) }
+{
+    let at = place_head(buf, form, file);
+    let Some(at) = place_name(buf, at, form, file) else {
+        return None;
+    };
+    let Some(at) = place_sort(buf, at, plan, kind) else {
+        return None;
+    };
+    Some(place_all(buf, at, b",\"line\":"))
+}
+
+// Places line, start and length. A copy of 16 bytes takes less time than one of fewer.
+#[inline(always)]
+fn place_numbers(buf: &mut [u8], at: usize, digits: &Digits, numbers: Numbers) -> usize
+    requires digits { AreKept digits.now numbers }
+    requires len { numbers.len ≤ 96 }
+    requires room { at + 64 ≤ length buf.old }
+    ensures placed { Placed buf.old buf.new at (numbers_text numbers.line numbers.start numbers.len)
+        result }
+    ensures short { result ≤ at + 54 }
+{
+    let at = digits.place_line(buf, at, numbers);
+    let at = place_16(buf, at, b",\"start\":       ", 0, 9);
+    let at = digits.place_start(buf, at, numbers);
+    let at = place_16(buf, at, b",\"len\":         ", 0, 7);
+    place_small(buf, at, numbers.len)
+}
+
+// Places a text that is UTF-8, if texts are printed.
+#[inline(always)]
+fn place_printed(
+    buf: &mut [u8],
+    at: usize,
+    is_printed: bool,
+    bytes: &[u8],
+    numbers: Numbers,
+) -> usize
+    requires text { numbers.start + numbers.len + 16 ≤ length bytes.now }
+    requires room { at + 6 * numbers.len + 26 ≤ length buf.old }
+    ensures placed { Placed buf.old buf.new at
+        (string_member is_printed (take numbers.len (drop numbers.start bytes.now))) result }
+    ensures short { result ≤ at + 6 * numbers.len + 10 }
+{
+    if !is_printed {
+        return at;
+    }
+    let at = place_16(buf, at, b",\"text\":\"       ", 0, 9);
+    let at = place_text::<StringEscape>(buf, at, bytes, numbers.start, numbers.len);
+    place_byte(buf, at, b'"')
+}
+
+// Returns true if the text is short enough and 16 bytes can be read after it. A printed text must also be UTF-8.
+#[inline(always)]
+fn can_be_placed(is_printed: bool, numbers: Numbers, bytes: &[u8]) -> bool
+    requires { numbers.start + numbers.len ≤ length bytes.now }
+    ensures { IsTrue result → IsShortText is_printed numbers.start numbers.len bytes.now }
+{
+    fits(numbers, bytes) && (!is_printed || is_text_at(bytes, numbers.start, numbers.len))
+}
+
+/// Places the line of an item from ready parts. Returns `None` if it needs the plain way.
+#[inline(always)]
+pub(crate) fn place_json_line(
+    style: &FormStyle<'_>,
+    draft: &mut Draft,
+    buf: &mut [u8],
+    at: usize,
+    plan: &Plan,
+    file: u32,
+    bytes: &[u8],
+    item: &FlatItem,
+) -> Option<usize>
+    requires format { style.now.form.now.format ≡ Format.Json }
+    requires room { at + 800 ≤ length buf.old }
+    requires bytes { bytes.now ≡ bytes_of plan.now file }
+    requires item { IsItemOf (kinds_of plan.now) (bytes_of plan.now file) item.now }
+    requires prefixes { ArePrefixesOf (prefix_in (form_view style.now.form.now) plan.now file)
+        draft.old.prefixes }
+    ensures placed { MatchOption result (buf.new ≡ buf.old) (λ end. take end buf.new
+        ≡ take at buf.old ++ json_line (form_view style.now.form.now) plan.now file item.now) }
+    ensures short { MatchOption result (Unit {0}) (λ end. end ≤ at + 800) }
+    ensures len { length buf.new ≡ length buf.old }
+    ensures prefixes { ArePrefixesOf (prefix_in (form_view style.now.form.now) plan.now file)
+        draft.new.prefixes }
+{
+    let numbers = numbers_in(item);
+    if !can_be_placed(style.form.text, numbers, bytes) || !draft.digits.follow(numbers) {
+        return None;
+    }
+    let Some(at) = draft
+        .prefixes
+        .place(style, buf, at, plan, file, item.label())
+    else {
+        return None;
+    };
+    let at = place_numbers(buf, at, &draft.digits, numbers);
+    let at = place_printed(buf, at, style.form.text, bytes, numbers);
+    Some(place_4(buf, at, b"}\n  ", 0, 2))
 }

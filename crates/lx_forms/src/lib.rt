@@ -4,18 +4,14 @@
 mod choosing;
 mod form;
 mod format;
-mod json_draft;
-mod json_fields;
 mod json_laws;
 mod json_lines;
-mod json_prefixes;
 mod laws;
-mod lines;
 mod name_list;
-mod printer;
 mod printing;
 mod selection;
 mod strings;
+mod style;
 mod text_lines;
 
 pub use choosing::{ChoiceFault, choose};

@@ -1,51 +1,31 @@
-//! Appends text lines of a listing to a block. If an allocation fails, a part of a line was appended.
+//! Makes lines of fields in a form.
 
-ghost use Rattle.std.specs.Prelude.{◌≡◌, ◌<◌, ◌≤◌, ◌++◌, OnOk, decimal, length, take};
+ghost use Rattle.std.specs.Prelude.{◌≡◌, ◌+◌, ◌<◌, ◌≤◌, ◌++◌, IfOk, MatchOption, OnOk, codes, decimal, false, length, take, true};
 ghost use Rattle.std.specs.List.{flat_map};
+ghost use Rattle.lx_rules.specs.declared.rule.Kind.{Kind};
 ghost use Rattle.lx_scan.specs.ItemParts.{IsItemOf, LiesIn, NamesKindAmong, text_of};
 ghost use Rattle.lx_piece.specs.Plans.{bytes_of, files_of, kinds_of};
-ghost use Rattle.lx_forms.specs.TextLines.{fields_of, file_text, name_escaped, text_cut_line, text_line, text_part};
+ghost use Rattle.lx_line.specs.Escapes.{escaped, name_escaped};
+ghost use Rattle.lx_line.specs.Placed.{Placed};
+ghost use Rattle.lx_line.specs.Prefixes.{ArePrefixesOf, IsKindOf};
+ghost use Rattle.lx_forms.specs.declared.format.Format.{Format};
+ghost use Rattle.lx_forms.specs.FormStyles.{prefix_in, text_prefix};
+ghost use Rattle.lx_forms.specs.TextLines.{fields_of, file_text, text_cut_line, text_line};
 ghost use Rattle.lx_forms.specs.Views.{form_view};
 
 use crate::form::{Form, name_of};
-use lx_line::{numbers_of, push_field, push_kind, push_number, push_text};
+use crate::style::FormStyle;
+use lx_line::{
+    Draft, NameEscape, numbers_of, place_any_text, place_byte, place_fields, place_kind,
+    place_number, push_field, push_kind, push_number, push_text,
+};
 use lx_piece::Plan;
-use lx_scan::Item;
+use lx_rules::rule::Kind;
+use lx_scan::{FlatItem, Item};
 use std::alloc::AllocError;
 
-// Appends a byte of a name.
-fn push_name_byte(block: &mut Vec<u8>, byte: u8) -> Result<(), AllocError>
-    ensures { OnOk result (block.new.items ≡ block.old.items ++ name_escaped byte) }
-{
-    if byte == b' ' {
-        return block.extend_from_slice(b"\\x20");
-    }
-    push_text(block, &[byte])
-}
-
-// Returns the number of bytes at the front of a name that a line shows unescaped.
-fn plain_front(name: &[u8]) -> usize
-    ensures within { result ≤ length name.now }
-    ensures plain { flat_map name_escaped (take result name.now) ≡ take result name.now }
-{
-    let mut plain = 0;
-    while plain < name.len() && matches!(name[plain], b'!'..=b'[' | b']'..=b'~') {
-        plain += 1;
-    }
-    plain
-}
-
-// Appends a name. Most names are plain, and are copied at once.
-fn push_name(block: &mut Vec<u8>, name: &[u8]) -> Result<(), AllocError>
-    ensures { OnOk result (block.new.items ≡ block.old.items ++ flat_map name_escaped name.now) }
-{
-    let plain = plain_front(name);
-    block.extend_from_slice(&name[..plain])?;
-    for byte in &name[plain..] {
-        push_name_byte(block, *byte)?;
-    }
-    Ok(())
-}
+// Greatest length of a name in a kept prefix.
+const NAME: usize = 96;
 
 // Appends the name of a file if names are printed, otherwise its number.
 fn push_file(block: &mut Vec<u8>, form: &Form<'_>, file: u32) -> Result<(), AllocError>
@@ -53,7 +33,7 @@ fn push_file(block: &mut Vec<u8>, form: &Form<'_>, file: u32) -> Result<(), Allo
         (block.new.items ≡ block.old.items ++ file_text (form_view form.now) file) }
 {
     match form.names {
-        Some(names) => push_name(block, name_of(names, file)),
+        Some(names) => push_text::<NameEscape>(block, name_of(names, file)),
         None => push_number(block, form.number_of(file)),
     }
 }
@@ -71,19 +51,6 @@ fn push_fields(block: &mut Vec<u8>, plan: &Plan, item: &Item) -> Result<(), Allo
     Ok(())
 }
 
-// Appends a blank and a text, if texts are printed.
-fn push_text_part(block: &mut Vec<u8>, form: &Form<'_>, text: &[u8]) -> Result<(), AllocError>
-    ensures { OnOk result
-        (block.new.items ≡ block.old.items ++ text_part (form_view form.now) text.now) }
-{
-    if !form.text {
-        return Ok(());
-    }
-    block.extend_from_slice(b" ")?;
-    push_text(block, text)?;
-    Ok(())
-}
-
 /// Returns the text of an item of a file.
 pub(crate) fn text_in<'a>(plan: &'a Plan, file: u32, item: &Item) -> &'a [u8]
     requires file { file < files_of plan.now }
@@ -93,25 +60,30 @@ pub(crate) fn text_in<'a>(plan: &'a Plan, file: u32, item: &Item) -> &'a [u8]
     item.text(plan.bytes(file))
 }
 
-/// Appends the line of an item of a file.
-pub(crate) fn push_text_line(
+/// Appends the line of an item of a file up to its text. Returns true if texts are printed. Otherwise the line is whole.
+pub(crate) fn push_text_start(
     block: &mut Vec<u8>,
     form: &Form<'_>,
     plan: &Plan,
     file: u32,
     item: &Item,
-) -> Result<(), AllocError>
-    requires file { file < files_of plan.now }
-    requires item { IsItemOf (kinds_of plan.now) (bytes_of plan.now file) item.now }
-    ensures { OnOk result (block.new.items
-        ≡ block.old.items ++ text_line (form_view form.now) plan.now file item.now) }
+) -> Result<bool, AllocError>
+    requires { NamesKindAmong (kinds_of plan.now) item.now }
+    ensures start { IfOk result (λ goes_on. goes_on ≡ true
+        → (block.new.items ++ flat_map escaped (text_of (bytes_of plan.now file) item.now))
+        ++ codes "\n" ≡ block.old.items ++ text_line (form_view form.now) plan.now file item.now) }
+    ensures whole { IfOk result (λ goes_on. goes_on ≡ false
+        → block.new.items ≡ block.old.items ++ text_line (form_view form.now) plan.now file item.now) }
 {
     push_file(block, form, file)?;
     block.extend_from_slice(b" ")?;
     push_fields(block, plan, item)?;
-    push_text_part(block, form, text_in(plan, file, item))?;
+    if form.text {
+        block.extend_from_slice(b" ")?;
+        return Ok(true);
+    }
     block.extend_from_slice(b"\n")?;
-    Ok(())
+    Ok(false)
 }
 
 /// Appends the line of a file whose reading failed.
@@ -127,4 +99,88 @@ pub(crate) fn push_text_cut_line(
     push_file(block, form, file)?;
     block.extend_from_slice(b" ! cut\n")?;
     Ok(())
+}
+
+// Places a name and a space. Returns `None` if the name is too long.
+fn place_name(buf: &mut [u8], name: &[u8]) -> Option<usize>
+    requires { 640 ≤ length buf.old }
+    ensures placed { MatchOption result (Unit {0})
+        (λ end. Placed buf.old buf.new 0 (flat_map name_escaped name.now ++ codes " ") end) }
+    ensures short { MatchOption result (Unit {0}) (λ end. end ≤ 640) }
+{
+    if name.len() > NAME {
+        return None;
+    }
+    let at = place_any_text::<NameEscape>(buf, 0, name);
+    Some(place_byte(buf, at, b' '))
+}
+
+// Places the name of a file if names are printed, otherwise its number, and a space. Returns `None` if the name is too long.
+fn place_file(buf: &mut [u8], form: &Form<'_>, file: u32) -> Option<usize>
+    requires { 640 ≤ length buf.old }
+    ensures placed { MatchOption result (Unit {0}) (λ end.
+        Placed buf.old buf.new 0 (file_text (form_view form.now) file ++ codes " ") end) }
+    ensures short { MatchOption result (Unit {0}) (λ end. end ≤ 640) }
+{
+    match form.names {
+        Some(names) => place_name(buf, name_of(names, file)),
+        None => Some(place_number(buf, 0, form.number_of(file))),
+    }
+}
+
+/// Places the part of a line before the number of the line. Returns `None` if it is too long.
+pub(crate) fn place_text_prefix(
+    form: &Form<'_>,
+    buf: &mut [u8],
+    plan: &Plan,
+    file: u32,
+    kind: Option<Kind>,
+) -> Option<usize>
+    requires room { 1024 ≤ length buf.old }
+    requires kind { IsKindOf plan.now kind }
+    ensures { MatchOption result (Unit {0}) (λ end.
+        Placed buf.old buf.new 0 (text_prefix (form_view form.now) plan.now file kind) end) }
+{
+    let Some(at) = place_file(buf, form, file) else {
+        return None;
+    };
+    place_kind(buf, at, plan, kind)
+}
+
+/// Places the line of an item from ready parts. Returns `None` if it needs the plain way.
+#[inline(always)]
+pub(crate) fn place_text_line(
+    style: &FormStyle<'_>,
+    draft: &mut Draft,
+    buf: &mut [u8],
+    at: usize,
+    plan: &Plan,
+    file: u32,
+    bytes: &[u8],
+    item: &FlatItem,
+) -> Option<usize>
+    requires format { style.now.form.now.format ≡ Format.Lines }
+    requires room { at + 800 ≤ length buf.old }
+    requires bytes { bytes.now ≡ bytes_of plan.now file }
+    requires item { IsItemOf (kinds_of plan.now) (bytes_of plan.now file) item.now }
+    requires prefixes { ArePrefixesOf (prefix_in (form_view style.now.form.now) plan.now file)
+        draft.old.prefixes }
+    ensures placed { MatchOption result (buf.new ≡ buf.old) (λ end. take end buf.new
+        ≡ take at buf.old ++ text_line (form_view style.now.form.now) plan.now file item.now) }
+    ensures short { MatchOption result (Unit {0}) (λ end. end ≤ at + 800) }
+    ensures len { length buf.new ≡ length buf.old }
+    ensures prefixes { ArePrefixesOf (prefix_in (form_view style.now.form.now) plan.now file)
+        draft.new.prefixes }
+{
+    place_fields(
+        style,
+        style.form.text,
+        draft,
+        buf,
+        at,
+        plan,
+        file,
+        bytes,
+        item,
+    )
 }

@@ -1,5 +1,5 @@
 pub mod Behind
-pub mod Digits
+pub mod ShortNumbers
 pub mod Prefixed
 pub mod Lined
 pub mod Places

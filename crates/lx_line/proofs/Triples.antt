@@ -6,7 +6,7 @@ use Rattle.std.specs.Fmt.{decimal}
 use lib.Ieee.Fits.{and_l, and_r}
 use Rattle.lx_line.specs.Decimals.{leading, triple}
 use Rattle.lx_line.specs.declared.shared.TheConstants.{TRIPLES}
-use Rattle.lx_line.proofs.Digits.{leading_some}
+use Rattle.lx_line.proofs.ShortNumbers.{leading_some}
 
 -- the entries of n numbers, from this one on
 abbrev are_triples : ℕ → ℕ → List ℕ → Bool

@@ -4,18 +4,20 @@ use Rattle.std.specs.List.{flat_map, prefix_len}
 use Rattle.std.specs.Int.Bits.{bit_or}
 use Rattle.std.proofs.Math.Nat.{pow-succ'}
 use Rattle.std.proofs.Math.Seq.{take-add}
+use Rattle.std.proofs.lemmas.Bool.{eqb-false, le-leb, ne_eqb}
 use Rattle.std.proofs.lemmas.Grind.{flat_map-append}
 use Rattle.std.proofs.lemmas.List.{drop-drop, drop_more, length-map}
 use Rattle.std.proofs.lemmas.List.Sums.{prefix_len-le-length}
 use Rattle.std.proofs.lemmas.Simd.{first_set_mask_l, mask_l-lt, mask_l-mod, trailing_mask_l}
 use lib.Count.{count_trailing_zeros}
 use lib.Lanes.{mask_l, top, zip2}
-use Rattle.lx_line.specs.Escapes.{escaped}
+use Rattle.lx_line.specs.Escapes.{ShowsPlain, escaped, name_escaped}
 use Rattle.lx_line.specs.Placed.{Placed}
 use Rattle.lx_line.proofs.Places.{Placed-is, Placed-then}
 
-abbrev is_escaped : ℕ → Bool
-is_escaped x = (ltb x 32 || ltb 126 x) || eqb x 92
+-- a byte that isn't plain, if the least plain one is given
+abbrev pub is_escaped : ℕ → ℕ → Bool
+is_escaped least x = (ltb x least || ltb 126 x) || eqb x 92
 
 -- the result of three comparisons of a lane, in its top bit
 one_lane : (a b c : Bool) → top 7 (bit_or (bit_or (cond a 255 0) (cond b 255 0)) (cond c 255 0)) ≡ ((a || b) || c)
@@ -29,24 +31,36 @@ one_lane false false true = refl
 one_lane false false false = refl
 
 -- the vector of three comparisons
-abbrev compared : ℕ → List ℕ → List ℕ
-compared n xs =
+abbrev compared : ℕ → ℕ → List ℕ → List ℕ
+compared least n xs =
     zip2 (λ a b. bit_or a b)
-    (zip2 (λ a b. bit_or a b) (zip2 (λ a b. cond (ltb a b) 255 0) xs (replicate n 32)) (zip2 (λ a b. cond (ltb a b) 255 0) (replicate n 126) xs))
+    (zip2 (λ a b. bit_or a b) (zip2 (λ a b. cond (ltb a b) 255 0) xs (replicate n least)) (zip2 (λ a b. cond (ltb a b) 255 0) (replicate n 126) xs))
     (zip2 (λ a b. cond (eqb a b) 255 0) xs (replicate n 92))
 
-lanes : (n : ℕ) (xs : List ℕ) → length xs ≡ n → map (top 7) (compared n xs) ≡ map is_escaped xs
-lanes n [] e = refl
-lanes zero (x ∷ xs) e = absurd (omega arith)
-lanes (suc n) (x ∷ xs) e = ap (λ (b : Bool). b ∷ map (top 7) (compared n xs)) (one_lane (ltb x 32) (ltb 126 x) (eqb x 92)) ∙ ap (λ (bs : List Bool). is_escaped x ∷ bs) (lanes n xs (omega arith))
+lanes : (least n : ℕ) (xs : List ℕ) → length xs ≡ n → map (top 7) (compared least n xs) ≡ map (is_escaped least) xs
+lanes least n [] e = refl
+lanes least zero (x ∷ xs) e = absurd (omega arith)
+lanes least (suc n) (x ∷ xs) e = ap (λ (b : Bool). b ∷ map (top 7) (compared least n xs)) (one_lane (ltb x least) (ltb 126 x) (eqb x 92)) ∙ ap (λ (bs : List Bool). is_escaped least x ∷ bs) (lanes least n xs (omega arith))
 
-mask_of : (xs : List ℕ) → length xs ≡ 16 → mask_l (map (top 7) (compared 16 xs)) % 2 ^ 64 ≡ mask_l (map is_escaped xs)
-mask_of xs e =
-    ap (λ (ms : List Bool). mask_l ms % 2 ^ 64) (lanes 16 xs e)
-    ∙ mask_l-mod (map is_escaped xs) 64 (omega (arith, length-map xs is_escaped))
+pub mask_of : (least : ℕ) (xs : List ℕ) → length xs ≡ 16 → mask_l (map (top 7) (compared least 16 xs)) % 2 ^ 64 ≡ mask_l (map (is_escaped least) xs)
+mask_of least xs e =
+    ap (λ (ms : List Bool). mask_l ms % 2 ^ 64) (lanes least 16 xs e)
+    ∙ mask_l-mod (map (is_escaped least) xs) 64 (omega (arith, length-map xs (is_escaped least)))
 
-as_it_is : (x : ℕ) → is_escaped x ≡ false → escaped x ≡ x ∷ []
-as_it_is x e = grind arith
+pub as_it_is : (least x : ℕ) (shown : ℕ → List ℕ) → ShowsPlain least shown → is_escaped least x ≡ false → shown x ≡ x ∷ []
+as_it_is least x shown is e =
+    let low : least ≤ x = grind arith in
+    let high : x ≤ 126 = grind arith in
+    let apart : eqb x 92 ≡ false = grind arith in
+    is.plain x low high (eqb-false x 92 apart)
+
+pub texts_plain : ShowsPlain 32 escaped
+texts_plain = record { plain = λ x low high apart. rw (ne_eqb x 92 apart, le-leb 32 x low, le-leb x 126 high) refl }
+
+pub names_plain : ShowsPlain 33 name_escaped
+names_plain = record {
+  plain = λ x low high apart. rw (ne_eqb x 32 (λ e. omega arith), ne_eqb x 92 apart, le-leb 32 x (omega arith), le-leb x 126 high) refl;
+}
 
 plain_by : (b : Bool) (n r : ℕ) → suc n ≤ cond (not b) (1 + r) 0 → (b ≡ false) × (n ≤ r)
 plain_by true n r h = absurd (omega arith)
@@ -73,13 +87,6 @@ before_first p xs n whole few h =
     let m = mask_l (map p xs) in
     below_first (eqb m 0) n (prefix_len (λ y. not (p y)) xs) (count_trailing_zeros 64 m) few (first_set_mask_l p xs 16 whole (lit≤ tt)) h
 
--- they are unescaped
-pub plain_run : (p : ℕ → Bool) (escape : ℕ → List ℕ) → ((x : ℕ) → p x ≡ false → escape x ≡ x ∷ []) → (xs : List ℕ) (n : ℕ) → 16 ≤ length xs → n ≤ 16 → n ≤ count_trailing_zeros 64 (mask_l (map p (take 16 xs))) → flat_map escape (take n xs) ≡ take n xs
-plain_run p escape as_is xs n long few h =
-    let whole : length (take 16 xs) ≡ 16 = length-take-le 16 xs long in
-    let same = take-take n 16 xs few in
-    ap (flat_map escape) (sym same) ∙ first_plain p escape as_is n (take 16 xs) (before_first p (take 16 xs) n whole few h) ∙ same
-
 -- the bits of a mask, and one after them
 mask_more : (p : ℕ → Bool) (xs : List ℕ) → mask_l (map (λ (b : Bool). b) (map p xs ++ true ∷ [])) ≡ mask_l (map p xs) + 2 ^ length xs
 mask_more p [] = refl
@@ -102,29 +109,27 @@ counted p xs whole =
     ∙ trailing_mask_l (λ (b : Bool). b) 64 bits (omega (arith, length-append (map p xs) (true ∷ []), length-map xs p)) (omega (arith, all))
     ∙ before_bit p xs
 
-pub lanes_counted : (xs : List ℕ) → 16 ≤ length xs → count_trailing_zeros 64 (mask_l (map (top 7) (compared 16 (take 16 xs))) % 2 ^ 64 + 65536) ≡ prefix_len (λ y. not (is_escaped y)) (take 16 xs)
-lanes_counted xs long =
-    let whole : length (take 16 xs) ≡ 16 = length-take-le 16 xs long in
-    ap (λ (m : ℕ). count_trailing_zeros 64 (m + 65536)) (mask_of (take 16 xs) whole) ∙ counted is_escaped (take 16 xs) whole
+-- the number of bytes before the first of 16 that passes a test, by the mask of the test
+pub mask_counted : (p : ℕ → Bool) (xs : List ℕ) (mask : ℕ) → 16 ≤ length xs → mask ≡ mask_l (map p (take 16 xs)) → count_trailing_zeros 64 (mask + 65536) ≡ prefix_len (λ y. not (p y)) (take 16 xs)
+mask_counted p xs mask long is = ap (λ (m : ℕ). count_trailing_zeros 64 (m + 65536)) is ∙ counted p (take 16 xs) (length-take-le 16 xs long)
 
 -- there is room for a bit after the mask
-pub lanes_small : (xs : List ℕ) → 16 ≤ length xs → mask_l (map (top 7) (compared 16 (take 16 xs))) % 2 ^ 64 < 65536
-lanes_small xs long =
-    let whole : length (take 16 xs) ≡ 16 = length-take-le 16 xs long in
-    let bits = map is_escaped (take 16 xs) in
-    let many : 2 ^ length bits ≡ 65536 = ap (λ (n : ℕ). 2 ^ n) (length-map (take 16 xs) is_escaped ∙ whole) in
-    omega (arith, mask_of (take 16 xs) whole, mask_l-lt bits, many)
+pub mask_small : (p : ℕ → Bool) (xs : List ℕ) (mask : ℕ) → 16 ≤ length xs → mask ≡ mask_l (map p (take 16 xs)) → mask < 65536
+mask_small p xs mask long is =
+    let bits = map p (take 16 xs) in
+    let many : 2 ^ length bits ≡ 65536 = ap (λ (n : ℕ). 2 ^ n) (length-map (take 16 xs) p ∙ length-take-le 16 xs long) in
+    omega (arith, is, mask_l-lt bits, many)
 
 -- the count is at most sixteen
-pub lanes_few : (xs : List ℕ) (count : ℕ) → 16 ≤ length xs → count ≡ prefix_len (λ y. not (is_escaped y)) (take 16 xs) → count ≤ 16
-lanes_few xs count long is =
-    omega (arith, is, length-take-le 16 xs long, prefix_len-le-length (λ y. not (is_escaped y)) (take 16 xs))
+pub count_few : (p : ℕ → Bool) (xs : List ℕ) (count : ℕ) → 16 ≤ length xs → count ≡ prefix_len (λ y. not (p y)) (take 16 xs) → count ≤ 16
+count_few p xs count long is =
+    omega (arith, is, length-take-le 16 xs long, prefix_len-le-length (λ y. not (p y)) (take 16 xs))
 
 -- and its bytes are unescaped
-pub lanes_plain : (xs : List ℕ) (count n : ℕ) → 16 ≤ length xs → count ≡ prefix_len (λ y. not (is_escaped y)) (take 16 xs) → n ≤ count → flat_map escaped (take n xs) ≡ take n xs
-lanes_plain xs count n long is few =
-    let same = take-take n 16 xs (omega (arith, lanes_few xs count long is)) in
-    ap (flat_map escaped) (sym same) ∙ first_plain is_escaped escaped as_it_is n (take 16 xs) (omega (arith, is)) ∙ same
+pub count_plain : (p : ℕ → Bool) (shown : ℕ → List ℕ) → ((x : ℕ) → p x ≡ false → shown x ≡ x ∷ []) → (xs : List ℕ) (count n : ℕ) → 16 ≤ length xs → count ≡ prefix_len (λ y. not (p y)) (take 16 xs) → n ≤ count → flat_map shown (take n xs) ≡ take n xs
+count_plain p shown plain xs count n long is few =
+    let same = take-take n 16 xs (omega (arith, count_few p xs count long is)) in
+    ap (flat_map shown) (sym same) ∙ first_plain p shown plain n (take 16 xs) (omega (arith, is)) ∙ same
 
 pub text_parts : (escape : ℕ → List ℕ) (bytes : List ℕ) (start done part : ℕ) → flat_map escape (take done (drop start bytes)) ++ flat_map escape (take part (drop (start + done) bytes)) ≡ flat_map escape (take (done + part) (drop start bytes))
 text_parts escape bytes start done part =

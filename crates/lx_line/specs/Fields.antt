@@ -1,6 +1,9 @@
 -- The fields of a line after its prefix.
-use Rattle.std.specs.Prelude.{ℕ, List, ◌++◌, codes, decimal, drop, take}
+use Rattle.std.specs.Prelude.{ℕ, Bool, if◌then◌else◌, List, ◌++◌, codes, decimal, drop, take}
 use Rattle.std.specs.List.{flat_map}
+use Rattle.lx_scan.specs.declared.item.Item.{Item}
+use Rattle.lx_scan.specs.ItemParts.{line_of as line_number, start_of, len_of}
+use Rattle.lx_piece.specs.Plans.{Planned, bytes_of}
 use Rattle.lx_line.specs.Decimals.{IsAmong}
 use Rattle.lx_line.specs.Escapes.{escaped}
 use Rattle.lx_line.specs.declared.fields.Digits.{Digits}
@@ -10,6 +13,18 @@ use Rattle.lx_line.specs.declared.fields.Numbers.{Numbers}
 abbrev pub rest_text : ℕ → ℕ → ℕ → List ℕ → List ℕ
 rest_text line start len bytes =
     (decimal line ++ codes " ") ++ ((decimal start ++ codes " ") ++ ((decimal len ++ codes " ") ++ (flat_map escaped (take len (drop start bytes)) ++ codes "\n")))
+
+-- the same of a line without its text
+abbrev pub textless : ℕ → ℕ → ℕ → List ℕ
+textless line start len = (decimal line ++ codes " ") ++ ((decimal start ++ codes " ") ++ (decimal len ++ codes "\n"))
+
+-- the part after the prefix, with the text or without it
+abbrev pub rest_by : Bool → ℕ → ℕ → ℕ → List ℕ → List ℕ
+rest_by printed line start len bytes = if printed then rest_text line start len bytes else textless line start len
+
+-- that of the line of an item
+abbrev pub rest_of : Bool → Planned → ℕ → Item → List ℕ
+rest_of printed plan file item = rest_by printed (line_number item) (start_of item) (len_of item) (bytes_of plan file)
 
 -- the kept digits are those of these numbers
 pub record AreKept (digits : Digits) (numbers : Numbers) : Type 0 where

@@ -4,3 +4,5 @@ pub mod Fields
 pub mod Prefixes
 pub mod Lines
 pub mod Placed
+pub mod Styles
+pub mod StyleLaws

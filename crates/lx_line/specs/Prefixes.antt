@@ -23,11 +23,10 @@ class_and_kind plan (Some kind) = codes "T " ++ name_text plan kind ++ codes " "
 abbrev pub prefix_text : Planned → ℕ → Option Kind → List ℕ
 prefix_text plan file kind = decimal file ++ codes " " ++ class_and_kind plan kind
 
--- this is the prefix
-pub record IsPrefixOf (plan : Planned) (file : ℕ) (kind : Option Kind) (prefix : Prefix) : Type 0 where
-  pub short : prefix.len ≤ 32
-  pub text : take prefix.len prefix.text ≡ prefix_text plan file kind
+-- this is the prefix, unless it is too long to be kept
+pub record IsPrefixOf (bytes : List ℕ) (prefix : Prefix) : Type 0 where
+  pub text : prefix.len ≤ 128 → take prefix.len prefix.text ≡ bytes
 
--- the kept prefixes are those of labels
-pub record ArePrefixesOf (plan : Planned) (file : ℕ) (prefixes : Prefixes) : Type 0 where
-  pub slots : All (λ (slot : Slot). IsPrefixOf plan file (kind_of_label slot.label) slot.prefix) prefixes.slots
+-- the kept prefixes are these texts, by the kinds of labels
+pub record ArePrefixesOf (texts : Option Kind → List ℕ) (prefixes : Prefixes) : Type 0 where
+  pub slots : All (λ (slot : Slot). IsPrefixOf (texts (kind_of_label slot.label)) slot.prefix) prefixes.slots

@@ -4,10 +4,11 @@ ghost use Rattle.std.specs.Prelude.{◌≡◌, ◌<◌, ◌≤◌, [], ◌++◌,
 ghost use Rattle.lx_scan.specs.ItemParts.{IsItemOf};
 ghost use Rattle.lx_piece.specs.Plans.{files_of, bytes_of, kinds_of};
 ghost use Rattle.lx_line.specs.Prefixes.{ArePrefixesOf};
-ghost use Rattle.lx_line.specs.Lines.{lines_of};
+ghost use Rattle.lx_line.specs.Styles.{lines_by};
 
 use crate::draft::Draft;
 use crate::place::place_all;
+use crate::style::LineStyle;
 use lx_piece::Plan;
 use lx_scan::FlatItem;
 use std::alloc::{AllocError, Global};
@@ -76,8 +77,9 @@ impl LineBuffer {
     }
 
     /// Appends the lines of the first items, up to one that has no room or needs the plain way. Returns their number.
-    pub(crate) fn place_lines(
+    pub(crate) fn place_lines<L: LineStyle>(
         &mut self,
+        style: &L,
         draft: &mut Draft,
         plan: &Plan,
         file: u32,
@@ -85,12 +87,13 @@ impl LineBuffer {
     ) -> usize
         requires file { file < files_of plan.now }
         requires items { All (IsItemOf (kinds_of plan.now) (bytes_of plan.now file)) items.now }
-        requires prefixes { ArePrefixesOf plan.now file draft.old.prefixes }
+        requires prefixes { ArePrefixesOf (L.prefix style.now plan.now file) draft.old.prefixes }
         ensures few { result ≤ length items.now }
-        ensures lines { self.new ≡ self.old ++ lines_of plan.now file (take result items.now) }
-        ensures prefixes { ArePrefixesOf plan.now file draft.new.prefixes }
+        ensures lines { self.new ≡ self.old
+            ++ lines_by (L.style style.now) plan.now file (take result items.now) }
+        ensures prefixes { ArePrefixesOf (L.prefix style.now plan.now file) draft.new.prefixes }
     {
-        let lines = draft.place_lines(&mut self.bytes, self.len, plan, file, items);
+        let lines = draft.place_lines(style, &mut self.bytes, self.len, plan, file, items);
         self.len = lines.end;
         lines.count
     }

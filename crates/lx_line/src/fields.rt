@@ -1,11 +1,12 @@
 //! Places the fields of a line from ready parts.
 
-ghost use Rattle.std.specs.Prelude.{◌≡◌, ◌+◌, ◌≤◌, IsTrue, length};
+ghost use Rattle.std.specs.Prelude.{◌≡◌, ◌+◌, ◌<◌, ◌≤◌, IsTrue, decimal, length};
 ghost use Rattle.lx_scan.specs.ItemParts.{kind_of_item, line_of, start_of, len_of};
-ghost use Rattle.lx_line.specs.Fields.{AreKept, rest_text};
+ghost use Rattle.lx_line.specs.Fields.{AreKept, rest_by};
 ghost use Rattle.lx_line.specs.Placed.{Placed};
 
 use crate::decimals::place_short;
+use crate::escape::TextEscape;
 use crate::place::place_byte;
 use crate::shared::SharedDigits;
 use crate::texts::place_text;
@@ -89,30 +90,68 @@ impl Digits {
     {
         self.line.follow(numbers.line) && self.start.follow(numbers.start as u64)
     }
+
+    /// Places the number of the line.
+    #[inline(always)]
+    pub fn place_line(&self, buf: &mut [u8], at: usize, numbers: Numbers) -> usize
+        requires kept { AreKept self.now numbers }
+        requires room { at + 20 ≤ length buf.old }
+        ensures placed { Placed buf.old buf.new at (decimal numbers.line) result }
+        ensures short { result ≤ at + 18 }
+    {
+        self.line.place(buf, at, numbers.line) - 1
+    }
+
+    /// Places the position of the start.
+    #[inline(always)]
+    pub fn place_start(&self, buf: &mut [u8], at: usize, numbers: Numbers) -> usize
+        requires kept { AreKept self.now numbers }
+        requires room { at + 20 ≤ length buf.old }
+        ensures placed { Placed buf.old buf.new at (decimal numbers.start) result }
+        ensures short { result ≤ at + 18 }
+    {
+        self.start.place(buf, at, numbers.start as u64) - 1
+    }
 }
 
-/// Places the part of a line after its prefix.
+/// Places a number below 100.
 #[inline(always)]
-pub fn place_rest(
+pub fn place_small(buf: &mut [u8], at: usize, number: usize) -> usize
+    requires room { at + 4 ≤ length buf.old }
+    requires number { number < 100 }
+    ensures placed { Placed buf.old buf.new at (decimal number) result }
+    ensures short { result ≤ at + 2 }
+{
+    place_short(buf, at, number) - 1
+}
+
+/// Places the part of a line after its prefix, with the text or without it.
+#[inline(always)]
+pub(crate) fn place_rest(
     buf: &mut [u8],
     at: usize,
     digits: &Digits,
     numbers: Numbers,
+    is_printed: bool,
     bytes: &[u8],
 ) -> usize
     requires digits { AreKept digits.now numbers }
     requires len { numbers.len ≤ 96 }
     requires text { numbers.start + numbers.len + 16 ≤ length bytes.now }
-    requires room { at + 448 ≤ length buf.old }
+    requires room { at + 640 ≤ length buf.old }
     ensures placed { Placed buf.old buf.new at
-        (rest_text numbers.line numbers.start numbers.len bytes.now) result }
-    ensures short { result ≤ at + 448 }
+        (rest_by is_printed numbers.line numbers.start numbers.len bytes.now) result }
+    ensures short { result ≤ at + 640 }
 {
     let Numbers { line, start, len } = numbers;
     let at = digits.line.place(buf, at, line);
     let at = digits.start.place(buf, at, start as u64);
+    if !is_printed {
+        let at = place_small(buf, at, len);
+        return place_byte(buf, at, b'\n');
+    }
     let at = place_short(buf, at, len);
-    let at = place_text(buf, at, bytes, start, len);
+    let at = place_text::<TextEscape>(buf, at, bytes, start, len);
     place_byte(buf, at, b'\n')
 }
 

@@ -4,20 +4,27 @@
 mod buffer;
 mod decimals;
 mod draft;
+mod escape;
 mod fields;
 mod lines;
 mod place;
 mod plain;
 mod prefixes;
 mod shared;
+mod style;
 mod texts;
 
 pub use buffer::LineBuffer;
-pub use decimals::{KeptDigits, place_short};
-pub use fields::{Numbers, kind_of, numbers_of};
+pub use draft::{Draft, place_fields};
+pub use escape::{Escape, NameEscape, TextEscape};
+pub use fields::{Digits, Numbers, fits, kind_of, numbers_in, numbers_of, place_small};
 pub use lines::{PlanDraft, push_each, push_lines};
-pub use place::{place_16, place_64, place_all, place_byte};
+pub use place::{place_4, place_16, place_all, place_byte};
 pub use plain::{
-    push_cut_line, push_field, push_fields, push_kind, push_line, push_number, push_text,
+    PlainStyle, place_kind, push_cut_line, push_field, push_fields, push_kind, push_line,
+    push_number, push_text,
 };
-pub use texts::place_any_text;
+pub use prefixes::Prefixes;
+pub use shared::place_number;
+pub use style::{LinePrefix, LineStyle};
+pub use texts::{place_any_text, place_text};

@@ -5,10 +5,12 @@ ghost use Rattle.lx_scan.specs.ItemParts.{IsItemOf};
 ghost use Rattle.lx_piece.specs.Plans.{files_of, bytes_of, kinds_of};
 ghost use Rattle.lx_line.specs.Lines.{lines_of};
 ghost use Rattle.lx_line.specs.Prefixes.{ArePrefixesOf};
+ghost use Rattle.lx_line.specs.Styles.{lines_by};
 
 use crate::buffer::LineBuffer;
 use crate::draft::{Draft, FirstLines};
-use crate::plain::push_line;
+use crate::plain::{PlainStyle, push_line};
+use crate::style::LineStyle;
 use lx_piece::Plan;
 use lx_scan::{FlatItem, Item};
 use std::alloc::AllocError;
@@ -32,10 +34,18 @@ pub fn push_lines(
     requires items { All (IsItemOf (kinds_of plan.now) (bytes_of plan.now file)) items.now }
     ensures { OnOk result (block.new.items ≡ block.old.items ++ lines_of plan.now file items.now) }
 {
+    let style = PlainStyle;
     if items.len() < MANY {
-        push_few(block, plan, file, items)
+        push_few(&style, block, plan, file, items)
     } else {
-        push_many(&mut Draft::new(plan, file), block, plan, file, items)
+        push_many(
+            &style,
+            &mut Draft::new(&style, plan, file),
+            block,
+            plan,
+            file,
+            items,
+        )
     }
 }
 
@@ -51,14 +61,15 @@ pub fn push_each(
     ensures { OnOk result (block.new.items ≡ block.old.items ++ lines_of plan.now file items.now) }
 {
     for item in items {
-        push_line(block, plan, file, item)?;
+        push_line(&PlainStyle, block, plan, file, item)?;
     }
     Ok(())
 }
 
 // Appends lines field by field.
 #[inline(never)]
-fn push_few(
+fn push_few<L: LineStyle>(
+    style: &L,
     block: &mut Vec<u8>,
     plan: &Plan,
     file: u32,
@@ -66,16 +77,18 @@ fn push_few(
 ) -> Result<(), AllocError>
     requires file { file < files_of plan.now }
     requires items { All (IsItemOf (kinds_of plan.now) (bytes_of plan.now file)) items.now }
-    ensures { OnOk result (block.new.items ≡ block.old.items ++ lines_of plan.now file items.now) }
+    ensures { OnOk result (block.new.items
+        ≡ block.old.items ++ lines_by (L.style style.now) plan.now file items.now) }
 {
     for item in items {
-        push_line(block, plan, file, &item.item())?;
+        push_line(style, block, plan, file, &item.item())?;
     }
     Ok(())
 }
 
 // Makes the lines of the first items: all those that can be placed at once, or one that needs the plain way. Returns their number.
-fn push_some(
+fn push_some<L: LineStyle>(
+    style: &L,
     draft: &mut Draft,
     lines: &mut [u8],
     block: &mut Vec<u8>,
@@ -86,16 +99,16 @@ fn push_some(
     requires some { 0 < length items.now }
     requires file { file < files_of plan.now }
     requires items { All (IsItemOf (kinds_of plan.now) (bytes_of plan.now file)) items.now }
-    requires prefixes { ArePrefixesOf plan.now file draft.old.prefixes }
+    requires prefixes { ArePrefixesOf (L.prefix style.now plan.now file) draft.old.prefixes }
     ensures some { IfOk result (λ count. 0 < count) }
     ensures few { IfOk result (λ count. count ≤ length items.now) }
-    ensures lines { IfOk result (λ count.
-        block.new.items ≡ block.old.items ++ lines_of plan.now file (take count items.now)) }
-    ensures prefixes { ArePrefixesOf plan.now file draft.new.prefixes }
+    ensures lines { IfOk result (λ count. block.new.items ≡ block.old.items
+        ++ lines_by (L.style style.now) plan.now file (take count items.now)) }
+    ensures prefixes { ArePrefixesOf (L.prefix style.now plan.now file) draft.new.prefixes }
 {
-    let FirstLines { count, end } = draft.place_lines(lines, 0, plan, file, items);
+    let FirstLines { count, end } = draft.place_lines(style, lines, 0, plan, file, items);
     if count == 0 {
-        push_line(block, plan, file, &items[0].item())?;
+        push_line(style, block, plan, file, &items[0].item())?;
         return Ok(1);
     }
     block.extend_from_slice(&lines[..end])?;
@@ -104,7 +117,8 @@ fn push_some(
 
 // Appends lines from ready parts.
 #[inline(never)]
-fn push_many(
+fn push_many<L: LineStyle>(
+    style: &L,
     draft: &mut Draft,
     block: &mut Vec<u8>,
     plan: &Plan,
@@ -113,22 +127,23 @@ fn push_many(
 ) -> Result<(), AllocError>
     requires file { file < files_of plan.now }
     requires items { All (IsItemOf (kinds_of plan.now) (bytes_of plan.now file)) items.now }
-    requires prefixes { ArePrefixesOf plan.now file draft.old.prefixes }
-    ensures lines { OnOk result
-        (block.new.items ≡ block.old.items ++ lines_of plan.now file items.now) }
-    ensures prefixes { ArePrefixesOf plan.now file draft.new.prefixes }
+    requires prefixes { ArePrefixesOf (L.prefix style.now plan.now file) draft.old.prefixes }
+    ensures lines { OnOk result (block.new.items
+        ≡ block.old.items ++ lines_by (L.style style.now) plan.now file items.now) }
+    ensures prefixes { ArePrefixesOf (L.prefix style.now plan.now file) draft.new.prefixes }
 {
     let mut lines = [0; LINES];
     let mut done = 0;
     while done < items.len() {
-        done += push_some(draft, &mut lines, block, plan, file, &items[done..])?;
+        done += push_some(style, draft, &mut lines, block, plan, file, &items[done..])?;
     }
     Ok(())
 }
 
-/// The ready parts of a plan's lines, kept from one piece to the next, so that they aren't prepared for each.
+/// The ready parts of a plan's lines in a style, kept from one piece to the next, so that they aren't prepared for each.
 #[derive(Drop)]
-pub struct PlanDraft {
+pub struct PlanDraft<L: LineStyle> {
+    style: L,
     draft: Draft,
     // The file whose prefixes are kept.
     file: u32,
@@ -136,27 +151,38 @@ pub struct PlanDraft {
     plan: Snapshot<Plan>,
 }
 
-impl Model for PlanDraft {
-    ghost use Rattle.lx_piece.specs.Plans.{Planned};
+impl<L: LineStyle> Model for PlanDraft<L> {
     ghost use Rattle.lx_line.specs.Prefixes.{ArePrefixesOf};
+    ghost use Rattle.lx_line.specs.Styles.{Drafted};
 
-    ghost Value = { Planned };
+    ghost Value = { Drafted L };
 
-    ghost view = { λ s. s.plan.value };
+    ghost view = { λ s. record { style = s.style; plan = s.plan.value } };
 
-    ghost invariant = { λ s. ArePrefixesOf s.plan.value s.file s.draft.prefixes };
+    ghost invariant = { λ s.
+        ArePrefixesOf (L.prefix s.style s.plan.value s.file) s.draft.prefixes };
 }
 
-impl PlanDraft {
+impl<L: LineStyle> PlanDraft<L> {
     /// Makes a draft for the first file of a plan.
-    pub fn new(plan: &Plan) -> PlanDraft
-        ensures { result ≡ plan.now }
+    pub fn new(style: L, plan: &Plan) -> PlanDraft<L>
+        ensures style { result.style ≡ style }
+        ensures plan { result.plan ≡ plan.now }
     {
+        let draft = Draft::new(&style, plan, 0);
         PlanDraft {
-            draft: Draft::new(plan, 0),
+            style,
+            draft,
             file: 0,
             plan: Snapshot::of(plan),
         }
+    }
+
+    /// Returns the style.
+    pub fn style(&self) -> &L
+        ensures { result.now ≡ self.now.style }
+    {
+        &self.style
     }
 
     /// Appends the lines of items of a file of its plan to the block. If an allocation fails, a part of them was appended.
@@ -167,21 +193,21 @@ impl PlanDraft {
         file: u32,
         items: &[FlatItem],
     ) -> Result<(), AllocError>
-        requires plan { self.old ≡ plan.now }
+        requires plan { self.old.plan ≡ plan.now }
         requires file { file < files_of plan.now }
         requires items { All (IsItemOf (kinds_of plan.now) (bytes_of plan.now file)) items.now }
-        ensures plan { self.new ≡ self.old }
-        ensures lines { OnOk result
-            (block.new.items ≡ block.old.items ++ lines_of plan.now file items.now) }
+        ensures same { self.new ≡ self.old }
+        ensures lines { OnOk result (block.new.items
+            ≡ block.old.items ++ lines_by (L.style self.old.style) plan.now file items.now) }
     {
         if items.len() < MANY {
-            return push_few(block, plan, file, items);
+            return push_few(&self.style, block, plan, file, items);
         }
         if self.file != file {
             self.file = file;
-            self.draft.begin(plan, file);
+            self.draft.begin(&self.style, plan, file);
         }
-        push_many(&mut self.draft, block, plan, file, items)
+        push_many(&self.style, &mut self.draft, block, plan, file, items)
     }
 
     /// Appends to the buffer the lines of the first items of a file of its plan. Ends before one that has no room or needs the plain way. Returns
@@ -193,20 +219,21 @@ impl PlanDraft {
         file: u32,
         items: &[FlatItem],
     ) -> usize
-        requires plan { self.old ≡ plan.now }
+        requires plan { self.old.plan ≡ plan.now }
         requires file { file < files_of plan.now }
         requires items { All (IsItemOf (kinds_of plan.now) (bytes_of plan.now file)) items.now }
-        ensures plan { self.new ≡ self.old }
+        ensures same { self.new ≡ self.old }
         ensures few { result ≤ length items.now }
-        ensures lines { buffer.new ≡ buffer.old ++ lines_of plan.now file (take result items.now) }
+        ensures lines { buffer.new ≡ buffer.old
+            ++ lines_by (L.style self.old.style) plan.now file (take result items.now) }
     {
         if self.file != file && items.len() < MANY {
             return 0;
         }
         if self.file != file {
             self.file = file;
-            self.draft.begin(plan, file);
+            self.draft.begin(&self.style, plan, file);
         }
-        buffer.place_lines(&mut self.draft, plan, file, items)
+        buffer.place_lines(&self.style, &mut self.draft, plan, file, items)
     }
 }

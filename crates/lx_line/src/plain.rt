@@ -1,43 +1,52 @@
 //! Makes lines field by field: the plain way, which works for every line.
 
-ghost use Rattle.std.specs.Prelude.{◌≡◌, ◌<◌, ◌≤◌, ◌++◌, OnOk, codes, decimal, length};
+ghost use Rattle.std.specs.Prelude.{◌≡◌, ◌+◌, ◌<◌, ◌≤◌, ◌++◌, MatchOption, OnOk, Some, codes, decimal, length};
 ghost use Rattle.std.specs.List.{flat_map};
 ghost use Rattle.lx_scan.specs.ItemParts.{IsItemOf, IsKindAmong, NamesKindAmong, line_of as line_number, start_of, len_of};
 ghost use Rattle.lx_piece.specs.Plans.{files_of, bytes_of, kinds_of};
-ghost use Rattle.lx_line.specs.Escapes.{escaped};
-ghost use Rattle.lx_line.specs.Lines.{class_text, name_text, kind_text, line_of, cut_line};
+ghost use Rattle.lx_line.specs.Lines.{class_text, name_text, kind_text, cut_line};
+ghost use Rattle.lx_line.specs.Placed.{Placed};
+ghost use Rattle.lx_line.specs.Prefixes.{IsKindOf, class_and_kind};
 
+use crate::draft::{Draft, place_fields};
+use crate::escape::{Escape, TextEscape};
 use crate::fields::numbers_of;
+use crate::place::{place_all, place_byte};
+use crate::shared::place_number;
+use crate::style::{LinePrefix, LineStyle};
 use crate::texts::place_text;
 use itoa::Buffer;
 use lx_piece::Plan;
 use lx_rules::rule::Kind;
-use lx_scan::Item;
+use lx_scan::{FlatItem, Item};
 use std::alloc::AllocError;
 
 // Number of bytes of a text that are placed at a time.
 const PART: usize = 32;
 
+// Greatest length of the name of a kind in a kept prefix.
+const NAME: usize = 120;
+
 // Appends at most 32 bytes of a text, escaped. Works on a copy with 16 more bytes, which can be read too.
-fn push_part(line: &mut Vec<u8>, text: &[u8]) -> Result<(), AllocError>
+fn push_part<E: Escape>(line: &mut Vec<u8>, text: &[u8]) -> Result<(), AllocError>
     requires { length text.now ≤ 32 }
-    ensures { OnOk result (line.new.items ≡ line.old.items ++ flat_map escaped text.now) }
+    ensures { OnOk result (line.new.items ≡ line.old.items ++ flat_map E.shown text.now) }
 {
     let mut bytes = [0; 48];
     bytes[..text.len()].copy_from_slice(text);
-    let mut placed = [0; 144];
-    let end = place_text(&mut placed, 0, &bytes, 0, text.len());
+    let mut placed = [0; 208];
+    let end = place_text::<E>(&mut placed, 0, &bytes, 0, text.len());
     line.extend_from_slice(&placed[..end])
 }
 
 /// Appends a text, escaped. If an allocation fails, a part of it was appended.
-pub fn push_text(line: &mut Vec<u8>, text: &[u8]) -> Result<(), AllocError>
-    ensures { OnOk result (line.new.items ≡ line.old.items ++ flat_map escaped text.now) }
+pub fn push_text<E: Escape>(line: &mut Vec<u8>, text: &[u8]) -> Result<(), AllocError>
+    ensures { OnOk result (line.new.items ≡ line.old.items ++ flat_map E.shown text.now) }
 {
     let mut done = 0;
     while done < text.len() {
         let end = done + PART.min(text.len() - done);
-        push_part(line, &text[done..end])?;
+        push_part::<E>(line, &text[done..end])?;
         done = end;
     }
     Ok(())
@@ -117,15 +126,24 @@ pub fn push_fields(
     Ok(())
 }
 
-/// Appends the line of an item of a file to the block. If an allocation fails, a part of it was appended.
+/// Appends the line of an item of a file to the block, if it has one. If an allocation fails, a part of it was appended.
 #[inline(never)]
-pub fn push_line(block: &mut Vec<u8>, plan: &Plan, file: u32, item: &Item) -> Result<(), AllocError>
+pub fn push_line<L: LineStyle>(
+    style: &L,
+    block: &mut Vec<u8>,
+    plan: &Plan,
+    file: u32,
+    item: &Item,
+) -> Result<(), AllocError>
     requires file { file < files_of plan.now }
     requires item { IsItemOf (kinds_of plan.now) (bytes_of plan.now file) item.now }
-    ensures { OnOk result (block.new.items ≡ block.old.items ++ line_of plan.now file item.now) }
+    ensures { OnOk result (block.new.items
+        ≡ block.old.items ++ (L.style style.now).line plan.now file item.now) }
 {
-    push_fields(block, plan, file, item)?;
-    push_text(block, item.text(plan.bytes(file)))?;
+    if !style.push_start(block, plan, file, item)? {
+        return Ok(());
+    }
+    push_text::<TextEscape>(block, item.text(plan.bytes(file)))?;
     block.extend_from_slice(b"\n")
 }
 
@@ -135,4 +153,107 @@ pub fn push_cut_line(block: &mut Vec<u8>, file: u32) -> Result<(), AllocError>
 {
     push_number(block, u64::from(file))?;
     block.extend_from_slice(b" ! cut\n")
+}
+
+// Places a kind and a space. Returns `None` if its name is too long.
+fn place_name(buf: &mut [u8], at: usize, plan: &Plan, kind: Kind) -> Option<usize>
+    requires room { at + 128 ≤ length buf.old }
+    requires kind { IsKindAmong (kinds_of plan.now) kind }
+    ensures { MatchOption result (Unit {0})
+        (λ end. Placed buf.old buf.new at (name_text plan.now kind ++ codes " ") end) }
+{
+    match kind {
+        Kind::Number(number) => Some(place_number(buf, at, u64::from(number))),
+        Kind::Name(place) => {
+            let name = plan.kind(place);
+            if name.len() > NAME {
+                return None;
+            }
+            let at = place_all(buf, at, name);
+            Some(place_byte(buf, at, b' '))
+        }
+    }
+}
+
+// Places the class of a token and a kind, with a space after each. Returns `None` if its name is too long.
+fn place_token(buf: &mut [u8], at: usize, plan: &Plan, kind: Kind) -> Option<usize>
+    requires room { at + 130 ≤ length buf.old }
+    requires kind { IsKindAmong (kinds_of plan.now) kind }
+    ensures { MatchOption result (Unit {0})
+        (λ end. Placed buf.old buf.new at (class_and_kind plan.now (Some kind)) end) }
+{
+    let at = place_all(buf, at, b"T ");
+    place_name(buf, at, plan, kind)
+}
+
+/// Places class and kind, with a space after each. Returns `None` if they are too long.
+pub fn place_kind(buf: &mut [u8], at: usize, plan: &Plan, kind: Option<Kind>) -> Option<usize>
+    requires room { at + 130 ≤ length buf.old }
+    requires kind { IsKindOf plan.now kind }
+    ensures { MatchOption result (Unit {0})
+        (λ end. Placed buf.old buf.new at (class_and_kind plan.now kind) end) }
+{
+    match kind {
+        Some(kind) => place_token(buf, at, plan, kind),
+        None => Some(place_all(buf, at, b"E - ")),
+    }
+}
+
+/// The style of a listing without options.
+#[derive(Clone, Copy, Debug, Drop)]
+pub struct PlainStyle;
+
+impl LinePrefix for PlainStyle {
+    ghost use Rattle.lx_line.specs.Prefixes.{prefix_text};
+
+    ghost prefix = { λ _ plan file kind. prefix_text plan file kind };
+
+    fn place_prefix(
+        &self,
+        buf: &mut [u8],
+        plan: &Plan,
+        file: u32,
+        kind: Option<Kind>,
+    ) -> Option<usize> {
+        let at = place_number(buf, 0, u64::from(file));
+        place_kind(buf, at, plan, kind)
+    }
+}
+
+impl LineStyle for PlainStyle {
+    ghost use Rattle.lx_line.specs.StyleLaws.{plain_whole};
+    ghost use Rattle.lx_line.specs.Styles.{plain};
+
+    ghost style = { λ _. plain };
+
+    #[inline(always)]
+    fn place_line(
+        &self,
+        draft: &mut Draft,
+        buf: &mut [u8],
+        at: usize,
+        plan: &Plan,
+        file: u32,
+        bytes: &[u8],
+        item: &FlatItem,
+    ) -> Option<usize> {
+        place_fields(self, true, draft, buf, at, plan, file, bytes, item)
+    }
+
+    fn push_start(
+        &self,
+        block: &mut Vec<u8>,
+        plan: &Plan,
+        file: u32,
+        item: &Item,
+    ) -> Result<bool, AllocError> {
+        push_fields(block, plan, file, item)?;
+        Ok(true)
+    }
+
+    fn push_cut_line(&self, block: &mut Vec<u8>, file: u32) -> Result<(), AllocError> {
+        push_cut_line(block, file)
+    }
+
+    ghost whole = { λ _. plain_whole };
 }

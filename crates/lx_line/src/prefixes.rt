@@ -1,31 +1,29 @@
-//! Prefixes of lines: file, class and kind. Each is made once and kept for later lines.
+//! Prefixes of lines. Each is made once and kept for later lines.
 
-ghost use Rattle.std.specs.Prelude.{◌≡◌, ◌+◌, ◌<◌, ◌≤◌, ◌++◌, None, Some, MatchOption, codes, decimal, length, take};
-ghost use Rattle.lx_scan.specs.ItemParts.{IsKindAmong};
-ghost use Rattle.lx_piece.specs.Plans.{kinds_of};
+ghost use Rattle.std.specs.Prelude.{◌≡◌, ◌+◌, ◌<◌, ◌≤◌, MatchOption, length, take};
 ghost use Rattle.lx_tables.specs.Labels.{kind_of_label};
-ghost use Rattle.lx_line.specs.Prefixes.{ArePrefixesOf, IsKindOf, IsPrefixOf, prefix_text};
-ghost use Rattle.lx_line.specs.Lines.{name_text};
+ghost use Rattle.lx_line.specs.Prefixes.{ArePrefixesOf, IsKindOf, IsPrefixOf};
 ghost use Rattle.lx_line.specs.Placed.{Placed};
 
-use crate::decimals::place_number;
-use crate::place::{place_32, place_all, place_byte};
+use crate::place::{place_32, place_64, place_all};
+use crate::style::LinePrefix;
 use lx_piece::Plan;
-use lx_rules::rule::Kind;
 use lx_tables::{ECHO_LABEL, kind_of_label};
-use std::simd::prelude::*;
 
 // Greatest length of a kept prefix.
-const PREFIX: usize = 32;
+const PREFIX: usize = 128;
 
-// Number of kept prefixes of tokens.
+// Room for a prefix that is made. A part of it may be escaped.
+const ROOM: usize = 1024;
+
+// Number of kept prefixes.
 const SLOTS: usize = 32;
 
-/// The prefix of a line.
+/// The prefix of a line. A length above 128 means that it isn't kept.
 #[derive(Clone, Copy, Drop)]
 pub struct Prefix {
-    text: [u8; 32],
     len: usize,
+    text: [u8; 128],
 }
 
 /// The prefix of the lines of items with a label.
@@ -36,92 +34,70 @@ pub struct Slot {
 }
 
 impl Prefix {
-    // Makes a prefix that is known to be short.
-    fn of(file: u32, class_and_kind: &[u8]) -> Prefix
-        requires { length class_and_kind.now ≤ 20 }
-        ensures short { result.len ≤ 32 }
-        ensures text { take result.len result.text
-            ≡ decimal file ++ codes " " ++ class_and_kind.now }
+    fn none() -> Prefix
+        ensures { 128 < result.len }
     {
-        let mut text = [0; 32];
-        let at = place_file(&mut text, file);
-        let len = place_all(&mut text, at, class_and_kind);
-        Prefix { text, len }
-    }
-
-    #[inline(always)]
-    fn place(&self, buf: &mut [u8], at: usize) -> usize
-        requires room { at + 32 ≤ length buf.old }
-        requires short { self.now.len ≤ 32 }
-        ensures placed { Placed buf.old buf.new at (take self.now.len self.now.text) result }
-        ensures short { result ≤ at + 32 }
-    {
-        place_32(buf, at, &self.text, 0, self.len)
-    }
-}
-
-// Places the number of a file and a space.
-fn place_file(buf: &mut [u8], file: u32) -> usize
-    requires { 20 ≤ length buf.old }
-    ensures placed { Placed buf.old buf.new 0 (decimal file ++ codes " ") result }
-    ensures short { result ≤ 11 }
-{
-    place_number(buf, 0, u64::from(file))
-}
-
-// Places a kind and a space. Returns `None` if its name is too long.
-fn place_name(buf: &mut [u8], at: usize, plan: &Plan, kind: Kind) -> Option<usize>
-    requires room { at + 33 ≤ length buf.old }
-    requires kind { IsKindAmong (kinds_of plan.now) kind }
-    ensures { MatchOption result (Unit {0})
-        (λ end. Placed buf.old buf.new at (name_text plan.now kind ++ codes " ") end) }
-{
-    match kind {
-        Kind::Number(number) => Some(place_number(buf, at, u64::from(number))),
-        Kind::Name(place) => {
-            let name = plan.kind(place);
-            if name.len() > PREFIX {
-                return None;
-            }
-            let at = place_all(buf, at, name);
-            Some(place_byte(buf, at, b' '))
+        Prefix {
+            len: PREFIX + 1,
+            text: [0; PREFIX],
         }
     }
-}
 
-// Makes the prefix of the lines of tokens of a kind, if it is short enough to be kept.
-fn prefix_of_kind(plan: &Plan, file: u32, kind: Kind) -> Option<Prefix>
-    requires { IsKindAmong (kinds_of plan.now) kind }
-    ensures { MatchOption result (Unit {0})
-        (λ prefix. IsPrefixOf plan.now file (Some kind) prefix) }
-{
-    let mut text = [0; 64];
-    let at = place_file(&mut text, file);
-    let at = place_all(&mut text, at, b"T ");
-    let len = place_name(&mut text, at, plan, kind)?;
-    if len > PREFIX {
-        return None;
+    // Keeps a text, unless it is too long.
+    fn of(text: &[u8]) -> Prefix
+        ensures { IsPrefixOf text.now result }
+    {
+        if text.len() > PREFIX {
+            return Prefix::none();
+        }
+        let mut kept = [0; PREFIX];
+        let len = place_all(&mut kept, 0, text);
+        Prefix { len, text: kept }
     }
-    let text = u8x32::from_slice(&text).to_array();
-    Some(Prefix { text, len })
-}
 
-// Makes the prefix of the lines of Echoes.
-fn prefix_of_echoes(plan: &Plan, file: u32) -> Prefix
-    ensures { IsPrefixOf plan.now file None result }
-{
-    Prefix::of(file, b"E - ")
-}
+    // Makes the prefix of the lines of items with a label.
+    fn of_label<L: LinePrefix>(style: &L, plan: &Plan, file: u32, label: u64) -> Prefix
+        requires { IsKindOf plan.now (kind_of_label label) }
+        ensures { IsPrefixOf (L.prefix style.now plan.now file (kind_of_label label)) result }
+    {
+        let mut room = [0; ROOM];
+        match style.place_prefix(&mut room, plan, file, kind_of_label(label)) {
+            Some(len) => Prefix::of(&room[..len]),
+            None => Prefix::none(),
+        }
+    }
 
-// Makes the prefix of the lines of items with a label, if it is short enough to be kept.
-fn prefix_of(plan: &Plan, file: u32, label: u64) -> Option<Prefix>
-    requires { IsKindOf plan.now (kind_of_label label) }
-    ensures { MatchOption result (Unit {0})
-        (λ prefix. IsPrefixOf plan.now file (kind_of_label label) prefix) }
-{
-    match kind_of_label(label) {
-        Some(kind) => prefix_of_kind(plan, file, kind),
-        None => Some(prefix_of_echoes(plan, file)),
+    // Places a prefix of more than 32 bytes, if it is kept.
+    #[inline(always)]
+    fn place_long(&self, buf: &mut [u8], at: usize) -> Option<usize>
+        requires { at + 128 ≤ length buf.old }
+        ensures placed { MatchOption result (buf.new ≡ buf.old) (λ end.
+            (self.now.len ≤ 128)
+            × Placed buf.old buf.new at (take self.now.len self.now.text) end) }
+        ensures short { MatchOption result (Unit {0}) (λ end. end ≤ at + 128) }
+    {
+        if self.len <= 64 {
+            return Some(place_64(buf, at, &self.text, 0, self.len));
+        }
+        if self.len <= PREFIX {
+            return Some(place_all(buf, at, &self.text[..self.len]));
+        }
+        None
+    }
+
+    // Places the prefix, if it is kept.
+    #[inline(always)]
+    fn place(&self, buf: &mut [u8], at: usize) -> Option<usize>
+        requires { at + 128 ≤ length buf.old }
+        ensures placed { MatchOption result (buf.new ≡ buf.old) (λ end.
+            (self.now.len ≤ 128)
+            × Placed buf.old buf.new at (take self.now.len self.now.text) end) }
+        ensures short { MatchOption result (Unit {0}) (λ end. end ≤ at + 128) }
+    {
+        if self.len <= 32 {
+            return Some(place_32(buf, at, &self.text, 0, self.len));
+        }
+        self.place_long(buf, at)
     }
 }
 
@@ -142,12 +118,12 @@ pub struct Prefixes {
 impl Prefixes {
     /// Returns the prefixes of a file, so far only that of an Echo.
     #[inline(always)]
-    pub fn new(plan: &Plan, file: u32) -> Prefixes
-        ensures { ArePrefixesOf plan.now file result }
+    pub fn new<L: LinePrefix>(style: &L, plan: &Plan, file: u32) -> Prefixes
+        ensures { ArePrefixesOf (L.prefix style.now plan.now file) result }
     {
         let slot = Slot {
             label: ECHO_LABEL,
-            prefix: prefix_of_echoes(plan, file),
+            prefix: Prefix::of_label(style, plan, file, ECHO_LABEL),
         };
         Prefixes {
             slots: [slot; SLOTS],
@@ -157,50 +133,53 @@ impl Prefixes {
     // Makes a new prefix, places it, and keeps it.
     #[cold]
     #[inline(never)]
-    fn place_new(
+    fn place_new<L: LinePrefix>(
         &mut self,
+        style: &L,
         buf: &mut [u8],
         at: usize,
         plan: &Plan,
         file: u32,
         label: u64,
     ) -> Option<usize>
-        requires room { at + 32 ≤ length buf.old }
+        requires room { at + 128 ≤ length buf.old }
         requires kind { IsKindOf plan.now (kind_of_label label) }
-        requires prefixes { ArePrefixesOf plan.now file self.old }
+        requires prefixes { ArePrefixesOf (L.prefix style.now plan.now file) self.old }
         ensures placed { MatchOption result (buf.new ≡ buf.old) (λ end.
-            Placed buf.old buf.new at (prefix_text plan.now file (kind_of_label label)) end) }
-        ensures short { MatchOption result (Unit {0}) (λ end. end ≤ at + 32) }
-        ensures prefixes { ArePrefixesOf plan.now file self.new }
+            Placed buf.old buf.new at (L.prefix style.now plan.now file (kind_of_label label))
+            end) }
+        ensures short { MatchOption result (Unit {0}) (λ end. end ≤ at + 128) }
+        ensures prefixes { ArePrefixesOf (L.prefix style.now plan.now file) self.new }
     {
-        let prefix = prefix_of(plan, file, label)?;
-        let end = prefix.place(buf, at);
+        let prefix = Prefix::of_label(style, plan, file, label);
         self.slots[slot_of(label)] = Slot { label, prefix };
-        Some(end)
+        prefix.place(buf, at)
     }
 
     /// Places the prefix of the line of an item with a label. Returns `None` if it is too long.
     #[inline(always)]
-    pub fn place(
+    pub fn place<L: LinePrefix>(
         &mut self,
+        style: &L,
         buf: &mut [u8],
         at: usize,
         plan: &Plan,
         file: u32,
         label: u64,
     ) -> Option<usize>
-        requires room { at + 32 ≤ length buf.old }
+        requires room { at + 128 ≤ length buf.old }
         requires kind { IsKindOf plan.now (kind_of_label label) }
-        requires prefixes { ArePrefixesOf plan.now file self.old }
+        requires prefixes { ArePrefixesOf (L.prefix style.now plan.now file) self.old }
         ensures placed { MatchOption result (buf.new ≡ buf.old) (λ end.
-            Placed buf.old buf.new at (prefix_text plan.now file (kind_of_label label)) end) }
-        ensures short { MatchOption result (Unit {0}) (λ end. end ≤ at + 32) }
-        ensures prefixes { ArePrefixesOf plan.now file self.new }
+            Placed buf.old buf.new at (L.prefix style.now plan.now file (kind_of_label label))
+            end) }
+        ensures short { MatchOption result (Unit {0}) (λ end. end ≤ at + 128) }
+        ensures prefixes { ArePrefixesOf (L.prefix style.now plan.now file) self.new }
     {
         let slot = &self.slots[slot_of(label)];
         if slot.label == label {
-            return Some(slot.prefix.place(buf, at));
+            return slot.prefix.place(buf, at);
         }
-        self.place_new(buf, at, plan, file, label)
+        self.place_new(style, buf, at, plan, file, label)
     }
 }

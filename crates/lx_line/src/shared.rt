@@ -175,6 +175,18 @@ impl SharedDigits {
         self.last = 4;
     }
 
+    // Begins with the numbers near one.
+    fn begin(&mut self, number: u64)
+        requires { number < 10 ^ 18 }
+        ensures { IsAmong self.new.first self.new.count number }
+    {
+        if number < 1000 {
+            self.begin_short(number);
+        } else {
+            self.begin_long(number);
+        }
+    }
+
     #[cold]
     #[inline(never)]
     fn renew(&mut self, number: u64) -> bool
@@ -183,11 +195,7 @@ impl SharedDigits {
         if number > MOST {
             return false;
         }
-        if number < 1000 {
-            self.begin_short(number);
-            return true;
-        }
-        self.begin_long(number);
+        self.begin(number);
         true
     }
 
@@ -224,4 +232,16 @@ impl SharedDigits {
         put_4(buf, end, &TRIPLES, from as usize);
         end + self.last
     }
+}
+
+/// Places a number and a space.
+pub fn place_number(buf: &mut [u8], at: usize, number: u64) -> usize
+    requires room { at + 20 ≤ length buf.old }
+    requires number { number < 10 ^ 18 }
+    ensures placed { Placed buf.old buf.new at (decimal number ++ codes " ") result }
+    ensures short { result ≤ at + 19 }
+{
+    let mut digits = SharedDigits::new();
+    digits.begin(number);
+    digits.place(buf, at, number)
 }

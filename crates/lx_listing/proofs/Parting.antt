@@ -1,23 +1,21 @@
 -- The written part of lines that are written in parts.
 use Rattle.std.proofs.Common.{ℕ, ◌≡◌, ◌+◌, ◌-◌, ◌<◌, inl, Bool, List, [], ◌∷◌, ◌++◌, length, take, drop, get_or, refl, sym, ◌∙◌, ap, subst, arith}
-use Rattle.std.specs.Prelude.{codes, decimal}
 use Rattle.std.specs.List.{flat_map}
 use Rattle.std.proofs.Math.Seq.{take-add}
 use Rattle.std.proofs.lemmas.Grind.{flat_map-append}
 use Rattle.std.proofs.lemmas.List.{take-append-drop, take_all}
 use Rattle.std.proofs.Math.ListN.{length-drop}
 use Rattle.lx_scan.specs.declared.item.Item.{Item}
-use Rattle.lx_scan.specs.ItemParts.{line_of as line_number, start_of, len_of, text_of}
-use Rattle.lx_piece.specs.Plans.{Planned, bytes_of}
+use Rattle.lx_piece.specs.Plans.{Planned}
 use Rattle.lx_piece.specs.declared.reader.ReaderFault.{ReaderFault}
 use Rattle.lx_piece.specs.declared.reader.ReaderFault.TheVariants.{Device, Memory}
-use Rattle.lx_listing.specs.Lines.{class_text, cut_lines, escaped, kind_text, line_of, lines_of}
+use Rattle.lx_line.specs.StyleLaws.{lines_whole, whole_both}
+use Rattle.lx_line.specs.Styles.{HasWholeLines, Style, lines_by}
+use Rattle.lx_listing.specs.Lines.{cut_lines_by}
 use Rattle.lx_listing.specs.Listings.{AreWhole}
 use Rattle.lx_listing.specs.AppendingLaws.{prefix_before, prefix_behind, prefix_then}
 use Rattle.lx_listing.specs.Parts.{WrotePart}
 use Rattle.lx_listing.specs.Printing.{WrotePrefix}
-use Rattle.lx_listing.specs.PrintingLaws.{whole_both}
-use Rattle.lx_listing.proofs.WholeLines.{lines_whole}
 
 not_memory : (fault : ReaderFault) → fault ≡ Device → fault ≡ Memory → ⊥
 not_memory fault d m = (cc)
@@ -112,17 +110,6 @@ part_on wrote on text xs d n s t u fault lines a part =
     (subst (λ (bytes : List ℕ). WrotePart wrote s fault bytes u) (parts_join text xs d n)
     (part_then wrote on s t u fault (flat_map text (take d xs)) (flat_map text (take n (drop d xs))) lines a part))
 
--- the part of a line before its text
-abbrev pub fields_of : Planned → ℕ → Item → List ℕ
-fields_of plan file item =
-    decimal file ++ codes " " ++ class_text item ++ codes " " ++ kind_text plan item ++ codes " " ++ decimal (line_number item) ++ codes " " ++ decimal (start_of item) ++ codes " " ++ decimal (len_of item) ++ codes " "
-
--- a line of its parts
-pub line_is : (plan : Planned) (file : ℕ) (item : Item) (none block head text : List ℕ) → head ≡ block → block ≡ none ++ fields_of plan file item → none ≡ [] → text ≡ text_of (bytes_of plan file) item → (head ++ flat_map escaped text) ++ (10 ∷ []) ≡ line_of plan file item
-line_is plan file item none block head text h b n t =
-    ap (λ (bytes : List ℕ). (bytes ++ flat_map escaped text) ++ (10 ∷ [])) (h ∙ b ∙ ap (λ (bytes : List ℕ). bytes ++ fields_of plan file item) n)
-    ∙ ap (λ (bytes : List ℕ). (fields_of plan file item ++ flat_map escaped bytes) ++ (10 ∷ [])) t
-
 -- a line in three writes
 pub three_writes : {S : Type 0} (wrote : S → List ℕ → S → Type 0) (on : (s t u : S) (xs ys : List ℕ) → wrote s xs t → wrote t ys u → wrote s (xs ++ ys) u) (s t u v : S) (h x e line : List ℕ) → (h ++ x) ++ e ≡ line → wrote s h t → wrote t x u → wrote u e v → wrote s line v
 three_writes wrote on s t u v h x e line is a b d =
@@ -147,13 +134,13 @@ third_fails wrote on s t u v fault h x e line is device a b p =
     (subst (λ (bytes : List ℕ). WrotePrefix wrote s bytes v) is (prefix_on wrote on s u v (h ++ x) e (on s t u h x a b) p))
 
 -- a part of the lines of a piece, if they come before the cut line
-pub lines_part : {S : Type 0} (wrote : S → List ℕ → S → Type 0) (s t : S) (fault : ReaderFault) (own plan : Planned) (file : ℕ) (items : List Item) (cut : List ℕ) → own ≡ plan → WrotePart wrote s fault (lines_of plan file items) t → WrotePart wrote s fault (lines_of own file items ++ cut) t
-lines_part wrote s t fault own plan file items cut e part =
-    subst (λ (p : Planned). WrotePart wrote s fault (lines_of p file items ++ cut) t) (sym e) (part_more wrote s t fault (lines_of plan file items) cut part)
+pub lines_part : {S : Type 0} (wrote : S → List ℕ → S → Type 0) (s t : S) (fault : ReaderFault) (style : Style) (own plan : Planned) (file : ℕ) (items : List Item) (cut : List ℕ) → own ≡ plan → WrotePart wrote s fault (lines_by style plan file items) t → WrotePart wrote s fault (lines_by style own file items ++ cut) t
+lines_part wrote s t fault style own plan file items cut e part =
+    subst (λ (p : Planned). WrotePart wrote s fault (lines_by style p file items ++ cut) t) (sym e) (part_more wrote s t fault (lines_by style plan file items) cut part)
 
 -- all of them, and then a part of the cut line
-pub cut_part : {S : Type 0} (wrote : S → List ℕ → S → Type 0) (on : (s t u : S) (xs ys : List ℕ) → wrote s xs t → wrote t ys u → wrote s (xs ++ ys) u) (s t u : S) (fault : ReaderFault) (own plan : Planned) (file : ℕ) (items : List Item) (ends cut : Bool) → own ≡ plan → ends ≡ cut → wrote s (lines_of plan file items) t → WrotePart wrote t fault (cut_lines file ends) u → WrotePart wrote s fault (lines_of own file items ++ cut_lines file cut) u
-cut_part wrote on s t u fault own plan file items ends cut e k w part =
-    subst (λ (p : Planned). WrotePart wrote s fault (lines_of p file items ++ cut_lines file cut) u) (sym e)
-    (part_then wrote on s t u fault (lines_of plan file items) (cut_lines file cut) (lines_whole plan file items) w
-    (subst (λ (b : Bool). WrotePart wrote t fault (cut_lines file b) u) k part))
+pub cut_part : {S : Type 0} (wrote : S → List ℕ → S → Type 0) (on : (s t u : S) (xs ys : List ℕ) → wrote s xs t → wrote t ys u → wrote s (xs ++ ys) u) (s t u : S) (fault : ReaderFault) (style : Style) (whole : HasWholeLines style) (own plan : Planned) (file : ℕ) (items : List Item) (ends cut : Bool) → own ≡ plan → ends ≡ cut → wrote s (lines_by style plan file items) t → WrotePart wrote t fault (cut_lines_by style file ends) u → WrotePart wrote s fault (lines_by style own file items ++ cut_lines_by style file cut) u
+cut_part wrote on s t u fault style whole own plan file items ends cut e k w part =
+    subst (λ (p : Planned). WrotePart wrote s fault (lines_by style p file items ++ cut_lines_by style file cut) u) (sym e)
+    (part_then wrote on s t u fault (lines_by style plan file items) (cut_lines_by style file cut) (lines_whole style whole plan file items) w
+    (subst (λ (b : Bool). WrotePart wrote t fault (cut_lines_by style file b) u) k part))

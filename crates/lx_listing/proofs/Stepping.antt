@@ -8,7 +8,7 @@ use Rattle.lx_listing.specs.ListedLaws.{Passed}
 use Rattle.lx_listing.specs.Printing.{IsInStep, Printing}
 
 -- the invariant between two calls
-pub in_step : {S T : Type 0} (plan : Planned) (old new : Passing T) (at : T → Printing S) (wrote : S → List ℕ → S → Type 0) → IsInStep plan (at old.taker).plan (at old.taker).turn old.counts old.failed → Passed wrote at old new → IsInStep plan (at new.taker).plan (at new.taker).turn new.counts new.failed
+pub in_step : {S T : Type 0} (plan : Planned) (old new : Passing T) (at : T → Printing S) (wrote : S → List ℕ → S → Type 0) → IsInStep plan (at old.taker).listed.plan (at old.taker).turn old.counts old.failed → Passed wrote at old new → IsInStep plan (at new.taker).listed.plan (at new.taker).turn new.counts new.failed
 in_step plan old new at wrote s passed =
     record {
       same = passed.same ∙ s.same;

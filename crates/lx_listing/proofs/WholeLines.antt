@@ -1,32 +1,21 @@
-use Rattle.std.proofs.Common.{ℕ, ◌≡◌, inl, inr, Bool, true, false, List, [], ◌∷◌, ◌++◌, Option, refl, sym, append_assoc}
-use Rattle.std.specs.Prelude.{codes, decimal}
+use Rattle.std.proofs.Common.{ℕ, inl, Bool, true, false, List, [], ◌++◌, Option, refl}
 use Rattle.std.specs.Io.KnownBytes.{Keeps}
-use Rattle.lx_scan.specs.declared.item.Item.{Item}
 use Rattle.lx_piece.specs.Pieces.{ItemPiece, is_cut_short}
 use Rattle.lx_piece.specs.Plans.{Planned}
-use Rattle.lx_listing.specs.Lines.{cut_lines, line_of, lines_of, piece_lines}
+use Rattle.lx_line.specs.StyleLaws.{lines_whole}
+use Rattle.lx_line.specs.Styles.{HasWholeLines, Style, lines_by}
+use Rattle.lx_listing.specs.Lines.{cut_lines_by, piece_lines_by}
 use Rattle.lx_listing.specs.Listings.{AreWhole, AppendsWhole}
 use Rattle.lx_listing.specs.AppendingLaws.{appends_both, appends_nothing}
 use Rattle.lx_listing.specs.PrintingLaws.{whole_both}
 use Rattle.lx_listing.proofs.Appending.{kept_appends}
 
--- the bytes end with a line feed
-abbrev EndsLine : List ℕ → Type 0
-EndsLine bytes = (front : List ℕ) × (bytes ≡ front ++ 10 ∷ [])
+pub cut_whole : (style : Style) → HasWholeLines style → (file : ℕ) (cut : Bool) → AreWhole (cut_lines_by style file cut)
+cut_whole style is file false = inl refl
+cut_whole style is file true = is.cut_line file
 
-line_ends : (plan : Planned) (file : ℕ) (item : Item) → EndsLine (line_of plan file item)
-line_ends plan file item = (_, refl)
-
-pub lines_whole : (plan : Planned) (file : ℕ) (items : List Item) → AreWhole (lines_of plan file items)
-lines_whole plan file [] = inl refl
-lines_whole plan file (item ∷ items) = whole_both (line_of plan file item) (lines_of plan file items) (inr (line_ends plan file item)) (lines_whole plan file items)
-
-cut_whole : (file : ℕ) (cut : Bool) → AreWhole (cut_lines file cut)
-cut_whole file false = inl refl
-cut_whole file true = inr (decimal file ++ codes " ! cut", sym (append_assoc (decimal file) (codes " ! cut") (10 ∷ [])))
-
-pub piece_whole : (plan : Planned) (file : ℕ) (piece : ItemPiece) → AreWhole (piece_lines plan file piece)
-piece_whole plan file piece = whole_both (lines_of plan file piece.items) (cut_lines file (is_cut_short piece)) (lines_whole plan file piece.items) (cut_whole file (is_cut_short piece))
+pub piece_whole : (style : Style) → HasWholeLines style → (plan : Planned) (file : ℕ) (piece : ItemPiece) → AreWhole (piece_lines_by style plan file piece)
+piece_whole style is plan file piece = whole_both (lines_by style plan file piece.items) (cut_lines_by style file (is_cut_short piece)) (lines_whole style is plan file piece.items) (cut_whole style is file (is_cut_short piece))
 
 -- nothing was written
 pub wrote_nothing : (a : Option (List ℕ)) → AppendsWhole a a

@@ -10,49 +10,49 @@ use Rattle.lx_piece.specs.Plans.{Planned, IsPlan, files_of, is_cut, items_of}
 use Rattle.lx_piece.specs.Pieces.{IsPrefix, ItemPiece, contents, part, piece_at, pieces_of, pieces_to}
 use Rattle.lx_piece.specs.Relayed.{AreAllTaken, HasOpenFile}
 use Rattle.lx_piece.specs.PieceLaws.{marked_cut, pieces_hold, prefix_to, whole_at}
-use Rattle.lx_listing.specs.Lines.{cut_lines, file_lines, line_of, lines_of, piece_lines, pieces_lines}
+use Rattle.lx_listing.specs.Lines.{Style, cut_lines_by, file_lines_by, lines_by, piece_lines_by, pieces_lines_by, plain}
 use Rattle.lx_listing.specs.AppendingLaws.{appends_nothing, appends_both, prefix_all, prefix_then, prefix_behind, prefix_before}
-use Rattle.lx_listing.specs.Listings.{listing_to, listing_of, taken_lines, IsDue, Printed, Prints}
+use Rattle.lx_listing.specs.Listings.{listing_by, listing_to, listing_to_by, listing_of, taken_lines, taken_lines_by, IsDue, Printed, Prints}
 
 -- the lines of some first items begin those of all
-prefix_lines : (plan : Planned) (file : ℕ) (xs ys : List Item) → IsPrefix xs ys → IsPrefix (lines_of plan file xs) (lines_of plan file ys)
-prefix_lines plan file xs ys f =
-    (lines_of plan file f.0, sym (flat_map-append (line_of plan file) xs f.0) ∙ ap (λ items. lines_of plan file items) f.1)
+prefix_lines : (style : Style) (plan : Planned) (file : ℕ) (xs ys : List Item) → IsPrefix xs ys → IsPrefix (lines_by style plan file xs) (lines_by style plan file ys)
+prefix_lines style plan file xs ys f =
+    (lines_by style plan file f.0, sym (flat_map-append (style.line plan file) xs f.0) ∙ ap (λ items. lines_by style plan file items) f.1)
 
 -- the lines of pieces and then of one more
-pub lines_one : (plan : Planned) (file : ℕ) (xs : List ItemPiece) (piece : ItemPiece) → pieces_lines plan file (xs ++ piece ∷ []) ≡ pieces_lines plan file xs ++ piece_lines plan file piece
-lines_one plan file xs piece =
-    flat_map-append (piece_lines plan file) xs (piece ∷ []) ∙ ap (λ bytes. pieces_lines plan file xs ++ bytes) (append-nil (piece_lines plan file piece))
+pub lines_one : (style : Style) (plan : Planned) (file : ℕ) (xs : List ItemPiece) (piece : ItemPiece) → pieces_lines_by style plan file (xs ++ piece ∷ []) ≡ pieces_lines_by style plan file xs ++ piece_lines_by style plan file piece
+lines_one style plan file xs piece =
+    flat_map-append (piece_lines_by style plan file) xs (piece ∷ []) ∙ ap (λ bytes. pieces_lines_by style plan file xs ++ bytes) (append-nil (piece_lines_by style plan file piece))
 
 -- the items of the first pieces, and of the next one
-items_one : (plan : Planned) (file count : ℕ) → lines_of plan file (contents (pieces_to plan file (suc count))) ≡ lines_of plan file (contents (pieces_to plan file count)) ++ lines_of plan file (part plan.per_piece (items_of plan file) count)
-items_one plan file count =
+items_one : (style : Style) (plan : Planned) (file count : ℕ) → lines_by style plan file (contents (pieces_to plan file (suc count))) ≡ lines_by style plan file (contents (pieces_to plan file count)) ++ lines_by style plan file (part plan.per_piece (items_of plan file) count)
+items_one style plan file count =
     let items = part plan.per_piece (items_of plan file) count in
-    ap (λ all. lines_of plan file all)
+    ap (λ all. lines_by style plan file all)
     (flat_map-append (λ (piece : ItemPiece). piece.items) (pieces_to plan file count) (piece_at plan file count ∷ []) ∙ ap (λ more. contents (pieces_to plan file count) ++ more) (append-nil items))
-    ∙ flat_map-append (line_of plan file) (contents (pieces_to plan file count)) items
+    ∙ flat_map-append (style.line plan file) (contents (pieces_to plan file count)) items
 
 -- except for the last one, a piece has the lines of its items
-open_piece : (plan : Planned) (file number : ℕ) → (number + 1 ≡ pieces_of plan file → ⊥) → piece_lines plan file (piece_at plan file number) ≡ lines_of plan file (part plan.per_piece (items_of plan file) number)
-open_piece plan file number d =
+open_piece : (style : Style) (plan : Planned) (file number : ℕ) → (number + 1 ≡ pieces_of plan file → ⊥) → piece_lines_by style plan file (piece_at plan file number) ≡ lines_by style plan file (part plan.per_piece (items_of plan file) number)
+open_piece style plan file number d =
     let items = part plan.per_piece (items_of plan file) number in
-    ap (λ cut. lines_of plan file items ++ cut_lines file cut) (marked_cut plan file number ∙ ap (λ last. last && is_cut plan file) (ne_eqb (number + 1) (pieces_of plan file) d))
-    ∙ append-nil (lines_of plan file items)
+    ap (λ cut. lines_by style plan file items ++ cut_lines_by style file cut) (marked_cut plan file number ∙ ap (λ last. last && is_cut plan file) (ne_eqb (number + 1) (pieces_of plan file) d))
+    ∙ append-nil (lines_by style plan file items)
 
 -- the last one also has the cut line if the file's reading failed
-last_piece : (plan : Planned) (file number : ℕ) → number + 1 ≡ pieces_of plan file → piece_lines plan file (piece_at plan file number) ≡ lines_of plan file (part plan.per_piece (items_of plan file) number) ++ cut_lines file (is_cut plan file)
-last_piece plan file number e =
-    ap (λ cut. lines_of plan file (part plan.per_piece (items_of plan file) number) ++ cut_lines file cut)
+last_piece : (style : Style) (plan : Planned) (file number : ℕ) → number + 1 ≡ pieces_of plan file → piece_lines_by style plan file (piece_at plan file number) ≡ lines_by style plan file (part plan.per_piece (items_of plan file) number) ++ cut_lines_by style file (is_cut plan file)
+last_piece style plan file number e =
+    ap (λ cut. lines_by style plan file (part plan.per_piece (items_of plan file) number) ++ cut_lines_by style file cut)
     (marked_cut plan file number ∙ ap (λ last. last && is_cut plan file) (eq-eqb (number + 1) (pieces_of plan file) e))
 
 -- before the last one, the lines of the first pieces are those of their items
-pub open_lines : (plan : Planned) (file count : ℕ) → count < pieces_of plan file → taken_lines plan file count ≡ lines_of plan file (contents (pieces_to plan file count))
-open_lines plan file zero l = refl
-open_lines plan file (suc count) l =
-    lines_one plan file (pieces_to plan file count) (piece_at plan file count)
-    ∙ ap (λ bytes. bytes ++ piece_lines plan file (piece_at plan file count)) (open_lines plan file count (omega arith))
-    ∙ ap (λ bytes. lines_of plan file (contents (pieces_to plan file count)) ++ bytes) (open_piece plan file count (λ e. absurd (omega arith)))
-    ∙ sym (items_one plan file count)
+pub open_lines : (style : Style) (plan : Planned) (file count : ℕ) → count < pieces_of plan file → taken_lines_by style plan file count ≡ lines_by style plan file (contents (pieces_to plan file count))
+open_lines style plan file zero l = refl
+open_lines style plan file (suc count) l =
+    lines_one style plan file (pieces_to plan file count) (piece_at plan file count)
+    ∙ ap (λ bytes. bytes ++ piece_lines_by style plan file (piece_at plan file count)) (open_lines style plan file count (omega arith))
+    ∙ ap (λ bytes. lines_by style plan file (contents (pieces_to plan file count)) ++ bytes) (open_piece style plan file count (λ e. absurd (omega arith)))
+    ∙ sym (items_one style plan file count)
 
 -- after the last one there are no items
 no_part : (plan : Planned) (file count : ℕ) → 0 < plan.per_piece → pieces_of plan file ≤ count → part plan.per_piece (items_of plan file) count ≡ []
@@ -62,49 +62,49 @@ no_part plan file count some past =
     ap (λ (rest : List Item). take plan.per_piece rest) (drop_all (count * plan.per_piece) (items_of plan file) (omega arith)) ∙ take_all plan.per_piece [] (omega arith)
 
 -- from the last one on, the lines of the first pieces are those of the file
-pub whole_lines : (plan : Planned) (file count : ℕ) → 0 < plan.per_piece → pieces_of plan file ≤ count → taken_lines plan file count ≡ file_lines plan file
-whole_lines plan file zero some l = absurd (omega arith)
-whole_lines plan file (suc count) some l = elim (cases_lt count (pieces_of plan file)) [
+pub whole_lines : (style : Style) (plan : Planned) (file count : ℕ) → 0 < plan.per_piece → pieces_of plan file ≤ count → taken_lines_by style plan file count ≡ file_lines_by style plan file
+whole_lines style plan file zero some l = absurd (omega arith)
+whole_lines style plan file (suc count) some l = elim (cases_lt count (pieces_of plan file)) [
   | inl last ↦
-      lines_one plan file (pieces_to plan file count) (piece_at plan file count)
-      ∙ ap (λ bytes. bytes ++ piece_lines plan file (piece_at plan file count)) (open_lines plan file count last)
-      ∙ ap (λ bytes. lines_of plan file (contents (pieces_to plan file count)) ++ bytes) (last_piece plan file count (omega arith))
-      ∙ sym (append_assoc (lines_of plan file (contents (pieces_to plan file count))) (lines_of plan file (part plan.per_piece (items_of plan file) count)) (cut_lines file (is_cut plan file)))
-      ∙ ap (λ bytes. bytes ++ cut_lines file (is_cut plan file)) (sym (items_one plan file count) ∙ ap (λ items. lines_of plan file items) (whole_at plan file (suc count) some (omega arith)))
+      lines_one style plan file (pieces_to plan file count) (piece_at plan file count)
+      ∙ ap (λ bytes. bytes ++ piece_lines_by style plan file (piece_at plan file count)) (open_lines style plan file count last)
+      ∙ ap (λ bytes. lines_by style plan file (contents (pieces_to plan file count)) ++ bytes) (last_piece style plan file count (omega arith))
+      ∙ sym (append_assoc (lines_by style plan file (contents (pieces_to plan file count))) (lines_by style plan file (part plan.per_piece (items_of plan file) count)) (cut_lines_by style file (is_cut plan file)))
+      ∙ ap (λ bytes. bytes ++ cut_lines_by style file (is_cut plan file)) (sym (items_one style plan file count) ∙ ap (λ items. lines_by style plan file items) (whole_at plan file (suc count) some (omega arith)))
   | inr past ↦
-      lines_one plan file (pieces_to plan file count) (piece_at plan file count)
-      ∙ ap (λ bytes. bytes ++ piece_lines plan file (piece_at plan file count)) (whole_lines plan file count some past)
-      ∙ ap (λ bytes. file_lines plan file ++ bytes) (open_piece plan file count (λ e. absurd (omega arith)) ∙ ap (λ items. lines_of plan file items) (no_part plan file count some past))
-      ∙ append-nil (file_lines plan file)
+      lines_one style plan file (pieces_to plan file count) (piece_at plan file count)
+      ∙ ap (λ bytes. bytes ++ piece_lines_by style plan file (piece_at plan file count)) (whole_lines style plan file count some past)
+      ∙ ap (λ bytes. file_lines_by style plan file ++ bytes) (open_piece style plan file count (λ e. absurd (omega arith)) ∙ ap (λ items. lines_by style plan file items) (no_part plan file count some past))
+      ∙ append-nil (file_lines_by style plan file)
 ]
 
 -- the lines of the first pieces begin those of the file
-pub taken_begin : (plan : Planned) (file count : ℕ) → 0 < plan.per_piece → IsPrefix (taken_lines plan file count) (file_lines plan file)
-taken_begin plan file count some = elim (cases_lt count (pieces_of plan file)) [
+pub taken_begin : (style : Style) (plan : Planned) (file count : ℕ) → 0 < plan.per_piece → IsPrefix (taken_lines_by style plan file count) (file_lines_by style plan file)
+taken_begin style plan file count some = elim (cases_lt count (pieces_of plan file)) [
   | inl open_file ↦
-      subst (λ (bytes : List ℕ). IsPrefix bytes (file_lines plan file)) (sym (open_lines plan file count open_file))
-      (prefix_then (lines_of plan file (contents (pieces_to plan file count))) (lines_of plan file (items_of plan file)) (file_lines plan file)
-      (prefix_lines plan file (contents (pieces_to plan file count)) (items_of plan file) (prefix_to plan file count))
-      (prefix_before (lines_of plan file (items_of plan file)) (cut_lines file (is_cut plan file))))
-  | inr closed ↦ subst (λ (bytes : List ℕ). IsPrefix bytes (file_lines plan file)) (sym (whole_lines plan file count some closed)) (prefix_all (file_lines plan file))
+      subst (λ (bytes : List ℕ). IsPrefix bytes (file_lines_by style plan file)) (sym (open_lines style plan file count open_file))
+      (prefix_then (lines_by style plan file (contents (pieces_to plan file count))) (lines_by style plan file (items_of plan file)) (file_lines_by style plan file)
+      (prefix_lines style plan file (contents (pieces_to plan file count)) (items_of plan file) (prefix_to plan file count))
+      (prefix_before (lines_by style plan file (items_of plan file)) (cut_lines_by style file (is_cut plan file))))
+  | inr closed ↦ subst (λ (bytes : List ℕ). IsPrefix bytes (file_lines_by style plan file)) (sym (whole_lines style plan file count some closed)) (prefix_all (file_lines_by style plan file))
 ]
 
 -- the lines of the files below one begin those of the files below a later one
-pub listing_rises : (plan : Planned) (low high : ℕ) → low ≤ high → IsPrefix (listing_to plan low) (listing_to plan high)
-listing_rises plan low zero l =
+pub listing_rises : (style : Style) (plan : Planned) (low high : ℕ) → low ≤ high → IsPrefix (listing_to_by style plan low) (listing_to_by style plan high)
+listing_rises style plan low zero l =
     let none : low ≡ 0 = omega arith in
-    subst (λ (n : ℕ). IsPrefix (listing_to plan n) []) (sym none) (prefix_all [])
-listing_rises plan low (suc high) l = elim (cases_eq low (suc high)) [
-  | inl same ↦ subst (λ (n : ℕ). IsPrefix (listing_to plan n) (listing_to plan (suc high))) (sym same) (prefix_all (listing_to plan (suc high)))
-  | inr d ↦ prefix_then (listing_to plan low) (listing_to plan high) (listing_to plan (suc high)) (listing_rises plan low high (omega arith)) (prefix_before (listing_to plan high) (file_lines plan high))
+    subst (λ (n : ℕ). IsPrefix (listing_to_by style plan n) []) (sym none) (prefix_all [])
+listing_rises style plan low (suc high) l = elim (cases_eq low (suc high)) [
+  | inl same ↦ subst (λ (n : ℕ). IsPrefix (listing_to_by style plan n) (listing_to_by style plan (suc high))) (sym same) (prefix_all (listing_to_by style plan (suc high)))
+  | inr d ↦ prefix_then (listing_to_by style plan low) (listing_to_by style plan high) (listing_to_by style plan (suc high)) (listing_rises style plan low high (omega arith)) (prefix_before (listing_to_by style plan high) (file_lines_by style plan high))
 ]
 
 -- the lines of the first pieces of a file, after those of the files before it, begin the listing
-pub lines_begin : (plan : Planned) (file count : ℕ) → IsPlan plan → file < files_of plan → IsPrefix (listing_to plan file ++ taken_lines plan file count) (listing_of plan)
-lines_begin plan file count is l =
-    prefix_then (listing_to plan file ++ taken_lines plan file count) (listing_to plan (suc file)) (listing_of plan)
-    (prefix_behind (listing_to plan file) (taken_lines plan file count) (file_lines plan file) (taken_begin plan file count is.some_items))
-    (listing_rises plan (suc file) (files_of plan) (omega arith))
+pub lines_begin : (style : Style) (plan : Planned) (file count : ℕ) → IsPlan plan → file < files_of plan → IsPrefix (listing_to_by style plan file ++ taken_lines_by style plan file count) (listing_by style plan)
+lines_begin style plan file count is l =
+    prefix_then (listing_to_by style plan file ++ taken_lines_by style plan file count) (listing_to_by style plan (suc file)) (listing_by style plan)
+    (prefix_behind (listing_to_by style plan file) (taken_lines_by style plan file count) (file_lines_by style plan file) (taken_begin style plan file count is.some_items))
+    (listing_rises style plan (suc file) (files_of plan) (omega arith))
 
 -- the due text begins the listing
 pub due_begins : (plan : Planned) (counts text : List ℕ) → IsDue plan counts text → IsPrefix text (listing_of plan)
@@ -113,7 +113,7 @@ due_begins plan counts text d =
     let within = d.first_open.within in
     subst (λ (bytes : List ℕ). IsPrefix bytes (listing_of plan)) (sym d.lines)
     (elim (cases_lt d.first (files_of plan)) [
-      | inl l ↦ lines_begin plan d.first (slice_index counts d.first) d.plan_is l
+      | inl l ↦ lines_begin plain plan d.first (slice_index counts d.first) d.plan_is l
       | inr past ↦
           let none : slice_index counts d.first ≡ 0 = get_or_past counts d.first 0 (omega arith) in
           let all : d.first ≡ files_of plan = omega arith in

@@ -1,24 +1,35 @@
 -- The listing of a plan, and the part of it that a listing has written.
-use Rattle.std.specs.Prelude.{ℕ, zero, suc, ◌≡◌, ◌≤◌, ◌⊎◌, Bool, true, false, List, [], ◌∷◌, ◌++◌, Option, slice_index}
+use Rattle.std.specs.Prelude.{ℕ, zero, suc, ◌≡◌, ◌≤◌, Bool, true, false, List, [], ◌++◌, Option, slice_index}
 use Rattle.std.specs.Io.KnownBytes.{Appends}
 use Rattle.lx_piece.specs.Plans.{Planned, IsPlan, files_of}
 use Rattle.lx_piece.specs.Pieces.{IsPrefix, pieces_to}
 use Rattle.lx_piece.specs.Relayed.{AreAllTaken, HasOpenFile}
 use Rattle.lx_piece.specs.Turns.{Turn, IsFirstOpen}
-use Rattle.lx_listing.specs.Lines.{file_lines, pieces_lines}
+use Rattle.lx_listing.specs.Lines.{Style, file_lines_by, pieces_lines_by, plain}
+use Rattle.lx_line.specs.Styles.{Drafted}
+pub use Rattle.lx_line.specs.Styles.{AreWhole}
 
 -- the lines of the files below this one, in order
+abbrev pub listing_to_by : Style → Planned → ℕ → List ℕ
+listing_to_by style plan zero = []
+listing_to_by style plan (suc file) = listing_to_by style plan file ++ file_lines_by style plan file
+
 abbrev pub listing_to : Planned → ℕ → List ℕ
-listing_to plan zero = []
-listing_to plan (suc file) = listing_to plan file ++ file_lines plan file
+listing_to plan file = listing_to_by plain plan file
 
 -- the lines of all files, in order
+abbrev pub listing_by : Style → Planned → List ℕ
+listing_by style plan = listing_to_by style plan (files_of plan)
+
 abbrev pub listing_of : Planned → List ℕ
-listing_of plan = listing_to plan (files_of plan)
+listing_of plan = listing_by plain plan
 
 -- the lines of the first pieces of a file, this many
+abbrev pub taken_lines_by : Style → Planned → ℕ → ℕ → List ℕ
+taken_lines_by style plan file count = pieces_lines_by style plan file (pieces_to plan file count)
+
 abbrev pub taken_lines : Planned → ℕ → ℕ → List ℕ
-taken_lines plan file count = pieces_lines plan file (pieces_to plan file count)
+taken_lines plan file count = taken_lines_by plain plan file count
 
 -- a turn of the plan: that of a piece, or the one after the last file
 pub record IsTurnOf (plan : Planned) (turn : Turn) : Type 0 where
@@ -26,9 +37,28 @@ pub record IsTurnOf (plan : Planned) (turn : Turn) : Type 0 where
   pub within : turn.file ≤ files_of plan
   pub first : turn.file ≡ files_of plan → turn.number ≡ 0
 
+-- a plan that is listed in a style
+pub record Listed : Type 0 where
+  pub style : Style
+  pub plan : Planned
+
+abbrev pub plainly : Planned → Listed
+plainly plan = record { style = plain; plan = plan }
+
+-- the plan and the style that a draft is for
+abbrev pub listed_of : {L : Type 0} → (L → Style) → Drafted L → Listed
+listed_of style drafted = record { style = style drafted.style; plan = drafted.plan }
+
+-- all its lines
+abbrev pub all_lines : Listed → List ℕ
+all_lines listed = listing_by listed.style listed.plan
+
 -- the lines of the pieces before a turn
+abbrev pub lines_until : Listed → Turn → List ℕ
+lines_until listed turn = listing_to_by listed.style listed.plan turn.file ++ taken_lines_by listed.style listed.plan turn.file turn.number
+
 abbrev pub lines_before : Planned → Turn → List ℕ
-lines_before plan turn = listing_to plan turn.file ++ taken_lines plan turn.file turn.number
+lines_before plan turn = lines_until (plainly plan) turn
 
 -- text is the lines of the pieces taken of the files up to and with the first that isn't closed
 pub record IsDue (plan : Planned) (counts : List ℕ) (text : List ℕ) : Type 0 where
@@ -36,10 +66,6 @@ pub record IsDue (plan : Planned) (counts : List ℕ) (text : List ℕ) : Type 0
   pub first : ℕ
   pub first_open : IsFirstOpen plan counts first
   pub lines : text ≡ listing_to plan first ++ taken_lines plan first (slice_index counts first)
-
--- Whole lines, if the bytes begin at the start of a line and belong to a listing: a line has its only line feed at the end.
-abbrev pub AreWhole : List ℕ → Type 0
-AreWhole bytes = (bytes ≡ []) ⊎ ((front : List ℕ) × (bytes ≡ front ++ 10 ∷ []))
 
 -- known bytes grow by whole lines
 abbrev pub AppendsWhole : Option (List ℕ) → Option (List ℕ) → Type 0

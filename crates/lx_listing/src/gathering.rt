@@ -4,13 +4,13 @@ ghost use Rattle.std.specs.Prelude.{◌≡◌, ◌<◌, ◌≤◌, [], All, IfEr
 ghost use Rattle.lx_scan.specs.ItemParts.{IsItemOf};
 ghost use Rattle.lx_piece.specs.Plans.{bytes_of, files_of, kinds_of};
 ghost use Rattle.lx_listing.specs.Gathered.{Gathers, gathered};
-ghost use Rattle.lx_listing.specs.Lines.{line_of, lines_of};
+ghost use Rattle.lx_listing.specs.Lines.{lines_by};
 ghost use Rattle.lx_listing.specs.Parts.{WrotePart};
 ghost use Rattle.lx_listing.specs.Printing.{WrotePrefix};
 
 use crate::parts::{PART, gather_long};
 use crate::sink::LineSink;
-use lx_line::{LineBuffer, PlanDraft, numbers_of, push_line};
+use lx_line::{LineBuffer, LineStyle, PlanDraft, numbers_of, push_line};
 use lx_piece::{Plan, ReaderFault};
 use lx_scan::FlatItem;
 use std::marker::Model;
@@ -99,8 +99,9 @@ impl<S: LineSink> Gathering<S> {
     }
 
     // Gathers the line of an item that can't be placed. Makes it in the block, or in parts if its text is long.
-    fn gather_line(
+    fn gather_line<L: LineStyle>(
         &mut self,
+        style: &L,
         block: &mut Vec<u8>,
         plan: &Plan,
         file: u32,
@@ -108,71 +109,68 @@ impl<S: LineSink> Gathering<S> {
     ) -> Result<(), ReaderFault>
         requires file { file < files_of plan.now }
         requires item { IsItemOf (kinds_of plan.now) (bytes_of plan.now file) item.now }
-        ensures ok { OnOk result
-            (Gathers S.wrote self.old (line_of plan.now file item.now) self.new) }
-        ensures part { IfErr result (λ fault.
-            WrotePart (Gathers S.wrote) self.old fault (line_of plan.now file item.now)
-            self.new) }
+        ensures ok { OnOk result (Gathers S.wrote self.old
+            ((L.style style.now).line plan.now file item.now) self.new) }
+        ensures part { IfErr result (λ fault. WrotePart (Gathers S.wrote) self.old fault
+            ((L.style style.now).line plan.now file item.now) self.new) }
     {
         let item = item.item();
         if numbers_of(&item).len > PART {
-            return gather_long(self, block, plan, file, &item);
+            return gather_long(style, self, block, plan, file, &item);
         }
         block.clear();
-        let Ok(()) = push_line(block, plan, file, &item) else {
+        let Ok(()) = push_line(style, block, plan, file, &item) else {
             return Err(ReaderFault::Memory);
         };
         self.gather(block.as_slice())
     }
 
     // Gathers the lines of the first items: all those that can be placed at once, or one that can't. Returns their number.
-    fn gather_some(
+    fn gather_some<L: LineStyle>(
         &mut self,
         block: &mut Vec<u8>,
-        draft: &mut PlanDraft,
+        draft: &mut PlanDraft<L>,
         plan: &Plan,
         file: u32,
         items: &[FlatItem],
     ) -> Result<usize, ReaderFault>
         requires some { 0 < length items.now }
-        requires draft { draft.old ≡ plan.now }
+        requires draft { draft.old.plan ≡ plan.now }
         requires file { file < files_of plan.now }
         requires items { All (IsItemOf (kinds_of plan.now) (bytes_of plan.now file)) items.now }
         ensures draft { draft.new ≡ draft.old }
         ensures some { IfOk result (λ count. 0 < count) }
         ensures few { IfOk result (λ count. count ≤ length items.now) }
-        ensures ok { IfOk result (λ count.
-            Gathers S.wrote self.old (lines_of plan.now file (take count items.now)) self.new) }
-        ensures part { IfErr result (λ fault.
-            WrotePart (Gathers S.wrote) self.old fault (lines_of plan.now file items.now)
-            self.new) }
+        ensures ok { IfOk result (λ count. Gathers S.wrote self.old
+            (lines_by (L.style draft.old.style) plan.now file (take count items.now)) self.new) }
+        ensures part { IfErr result (λ fault. WrotePart (Gathers S.wrote) self.old fault
+            (lines_by (L.style draft.old.style) plan.now file items.now) self.new) }
     {
         let count = draft.place_lines(&mut self.held, plan, file, items);
         if count == 0 {
-            self.gather_line(block, plan, file, &items[0])?;
+            self.gather_line(draft.style(), block, plan, file, &items[0])?;
             return Ok(1);
         }
         Ok(count)
     }
 
     // Gathers the lines of items.
-    fn gather_items(
+    fn gather_items<L: LineStyle>(
         &mut self,
         block: &mut Vec<u8>,
-        draft: &mut PlanDraft,
+        draft: &mut PlanDraft<L>,
         plan: &Plan,
         file: u32,
         items: &[FlatItem],
     ) -> Result<(), ReaderFault>
-        requires draft { draft.old ≡ plan.now }
+        requires draft { draft.old.plan ≡ plan.now }
         requires file { file < files_of plan.now }
         requires items { All (IsItemOf (kinds_of plan.now) (bytes_of plan.now file)) items.now }
         ensures draft { draft.new ≡ draft.old }
-        ensures ok { OnOk result
-            (Gathers S.wrote self.old (lines_of plan.now file items.now) self.new) }
-        ensures part { IfErr result (λ fault.
-            WrotePart (Gathers S.wrote) self.old fault (lines_of plan.now file items.now)
-            self.new) }
+        ensures ok { OnOk result (Gathers S.wrote self.old
+            (lines_by (L.style draft.old.style) plan.now file items.now) self.new) }
+        ensures part { IfErr result (λ fault. WrotePart (Gathers S.wrote) self.old fault
+            (lines_by (L.style draft.old.style) plan.now file items.now) self.new) }
     {
         let mut done = 0;
         while done < items.len() {
@@ -206,10 +204,10 @@ impl<S: LineSink> LineSink for Gathering<S> {
         self.gather(block)
     }
 
-    fn write_items(
+    fn write_items<L: LineStyle>(
         &mut self,
         block: &mut Vec<u8>,
-        draft: &mut PlanDraft,
+        draft: &mut PlanDraft<L>,
         plan: &Plan,
         file: u32,
         items: &[FlatItem],

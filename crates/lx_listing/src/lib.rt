@@ -14,6 +14,7 @@ mod shown_lines;
 mod sink;
 mod spare_memory;
 mod spares;
+mod styled;
 mod writing;
 
 pub use listing::Listing;
@@ -22,4 +23,5 @@ pub use printing::{list_plan, print_listing};
 pub use shown::{Form, Shown};
 pub use sink::{Lent, LineSink};
 pub use spare_memory::{Spares, emptied};
+pub use styled::list_plan_by;
 pub use writing::{LineWrites, write_block};

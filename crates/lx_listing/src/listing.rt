@@ -61,7 +61,7 @@ impl<'a, W: Write> Model for Listing<'a, W> {
         (W.contents s.queue.taker.sink.out) };
 
     ghost invariant = { λ s.
-        IsInStep s.plan.now s.queue.taker.draft (turn_of s.queue.taker.file s.queue.taker.number)
+        IsInStep s.plan.now s.queue.taker.draft.plan (turn_of s.queue.taker.file s.queue.taker.number)
         s.queue.counts s.queue.failed };
 }
 

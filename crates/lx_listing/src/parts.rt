@@ -5,20 +5,20 @@ ghost use Rattle.std.specs.List.{flat_map};
 ghost use Rattle.lx_scan.specs.ItemParts.{IsItemOf};
 ghost use Rattle.lx_piece.specs.Plans.{bytes_of, files_of, kinds_of};
 ghost use Rattle.lx_listing.specs.Gathered.{Gathers};
-ghost use Rattle.lx_listing.specs.Lines.{escaped, line_of};
+ghost use Rattle.lx_listing.specs.Lines.{escaped};
 ghost use Rattle.lx_listing.specs.Parts.{WrotePart};
 ghost use Rattle.lx_listing.specs.Printing.{WrotePrefix};
 
 use crate::gathering::Gathering;
 use crate::sink::LineSink;
-use lx_line::{place_any_text, push_fields};
+use lx_line::{LineStyle, TextEscape, place_any_text};
 use lx_piece::{Plan, ReaderFault};
 use lx_scan::Item;
 
-/// Number of bytes of a longer text that are placed at a time. They need memory for four times as many bytes and 16 more.
+/// Number of bytes of a longer text that are placed at a time. They need memory for six times as many bytes and 16 more.
 pub(crate) const PART: usize = 4_096;
 
-const ROOM: usize = 16_400;
+const ROOM: usize = 24_592;
 
 // Gathers a part of a text, escaped.
 fn gather_part<S: LineSink>(
@@ -26,13 +26,13 @@ fn gather_part<S: LineSink>(
     room: &mut [u8],
     text: &[u8],
 ) -> Result<(), ReaderFault>
-    requires { 4 * length text.now + 16 ≤ length room.old }
+    requires { 6 * length text.now + 16 ≤ length room.old }
     ensures ok { OnOk result (Gathers S.wrote sink.old (flat_map escaped text.now) sink.new) }
     ensures err { OnErr result
         (WrotePrefix (Gathers S.wrote) sink.old (flat_map escaped text.now) sink.new) }
     ensures device { IfErr result (λ fault. fault ≡ ReaderFault.Device) }
 {
-    let end = place_any_text(room, 0, text);
+    let end = place_any_text::<TextEscape>(room, 0, text);
     sink.gather(&room[..end])
 }
 
@@ -53,8 +53,9 @@ fn gather_text<S: LineSink>(sink: &mut Gathering<S>, text: &[u8]) -> Result<(), 
     Ok(())
 }
 
-// Gathers the line of an item, with its text in parts.
-pub(crate) fn gather_long<S: LineSink>(
+// Gathers the line of an item that has one, with its text in parts.
+pub(crate) fn gather_long<L: LineStyle, S: LineSink>(
+    style: &L,
     sink: &mut Gathering<S>,
     block: &mut Vec<u8>,
     plan: &Plan,
@@ -63,14 +64,18 @@ pub(crate) fn gather_long<S: LineSink>(
 ) -> Result<(), ReaderFault>
     requires file { file < files_of plan.now }
     requires item { IsItemOf (kinds_of plan.now) (bytes_of plan.now file) item.now }
-    ensures ok { OnOk result (Gathers S.wrote sink.old (line_of plan.now file item.now) sink.new) }
-    ensures part { IfErr result (λ fault.
-        WrotePart (Gathers S.wrote) sink.old fault (line_of plan.now file item.now) sink.new) }
+    ensures ok { OnOk result (Gathers S.wrote sink.old
+        ((L.style style.now).line plan.now file item.now) sink.new) }
+    ensures part { IfErr result (λ fault. WrotePart (Gathers S.wrote) sink.old fault
+        ((L.style style.now).line plan.now file item.now) sink.new) }
 {
     block.clear();
-    let Ok(()) = push_fields(block, plan, file, item) else {
+    let Ok(goes_on) = style.push_start(block, plan, file, item) else {
         return Err(ReaderFault::Memory);
     };
+    if !goes_on {
+        return sink.gather(block.as_slice());
+    }
     sink.gather(block.as_slice())?;
     gather_text(sink, item.text(plan.bytes(file)))?;
     sink.gather(b"\n")?;

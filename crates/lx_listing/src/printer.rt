@@ -3,6 +3,7 @@
 ghost use Rattle.std.specs.Prelude.{◌≡◌, ◌<◌, IfErr, OnOk};
 ghost use Rattle.lx_piece.specs.Plans.{files_of};
 ghost use Rattle.lx_piece.specs.Turns.{HasTurn, turn_after};
+ghost use Rattle.lx_listing.specs.Listings.{plainly};
 ghost use Rattle.lx_listing.specs.Parts.{WrotePart};
 ghost use Rattle.lx_listing.specs.Printing.{PrintsTo, PrintsPart, printing, shown_lines, turn_of};
 ghost use Rattle.lx_listing.specs.Shown.{shown};
@@ -10,7 +11,7 @@ ghost use Rattle.lx_listing.specs.Shown.{shown};
 use crate::shown_lines::{write_cut, write_shown};
 use crate::sink::LineSink;
 use crate::{LineMaker, Shown, Spares};
-use lx_line::PlanDraft;
+use lx_line::{PlainStyle, PlanDraft};
 use lx_piece::{Piece, Plan, ReaderFault, Taker, plans_are_well_formed};
 use std::alloc::Global;
 
@@ -22,7 +23,7 @@ pub struct Printer<Y: Spares, S: LineSink> {
     pub(crate) spares: Y,
     pub(crate) sink: S,
     // Ready parts of the plan's lines. Contracts see the plan by it.
-    pub(crate) draft: PlanDraft,
+    pub(crate) draft: PlanDraft<PlainStyle>,
     // File and number of the piece that comes next.
     pub(crate) file: u32,
     pub(crate) number: u64,
@@ -32,12 +33,12 @@ pub struct Printer<Y: Spares, S: LineSink> {
 fn write_piece<Y: Spares, S: LineSink>(
     alloc: Global,
     spares: &Y,
-    draft: &mut PlanDraft,
+    draft: &mut PlanDraft<PlainStyle>,
     plan: &Plan,
     piece: Piece<Shown>,
     sink: &mut S,
 ) -> Result<(), ReaderFault>
-    requires draft { draft.old ≡ plan.now }
+    requires draft { draft.old.plan ≡ plan.now }
     requires plan { piece.items.plan ≡ plan.now }
     requires same_file { piece.items.file ≡ piece.file }
     requires file { piece.file < files_of plan.now }
@@ -49,7 +50,7 @@ fn write_piece<Y: Spares, S: LineSink>(
     let ends_cut = piece.is_cut_short();
     let Piece { file, items, .. } = piece;
     let mut block = write_shown(items, alloc, spares, draft, plan, file, sink)?;
-    write_cut(sink, &mut block, file, ends_cut)?;
+    write_cut(draft.style(), sink, &mut block, file, ends_cut)?;
     spares.give_block(file, block);
     Ok(())
 }
@@ -57,7 +58,7 @@ fn write_piece<Y: Spares, S: LineSink>(
 impl<Y: Spares, S: LineSink> Printer<Y, S> {
     /// Returns a printer that has written nothing.
     pub fn new(alloc: Global, plan: &Plan, spares: Y, sink: S) -> Printer<Y, S>
-        ensures plan { result.draft ≡ plan.now }
+        ensures plan { result.draft.plan ≡ plan.now }
         ensures file { result.file ≡ 0 }
         ensures number { result.number ≡ 0 }
         ensures sink { result.sink ≡ sink }
@@ -66,7 +67,7 @@ impl<Y: Spares, S: LineSink> Printer<Y, S> {
             alloc,
             spares,
             sink,
-            draft: PlanDraft::new(plan),
+            draft: PlanDraft::new(PlainStyle, plan),
             file: 0,
             number: 0,
         }
@@ -91,33 +92,34 @@ impl<Y: Spares, S: LineSink> Printer<Y, S> {
 }
 
 impl<Y: Spares, S: LineSink> Taker<LineMaker<Y>> for Printer<Y, S> {
+    ghost use Rattle.lx_listing.specs.Listings.{plainly};
     ghost use Rattle.lx_listing.specs.PrintingLaws.{prints_itself, prints_then, prints_no_more, part_behind};
 
-    ghost plan = { λ s. s.draft };
+    ghost plan = { λ s. s.draft.plan };
 
     ghost turn = { λ s. turn_of s.file s.number };
 
     ghost follows = { λ s t.
-        PrintsTo S.wrote (printing s.draft s.file s.number s.sink)
-        (printing t.draft t.file t.number t.sink) };
+        PrintsTo S.wrote (printing (plainly s.draft.plan) s.file s.number s.sink)
+        (printing (plainly t.draft.plan) t.file t.number t.sink) };
 
     ghost fails = { λ s fault t.
-        PrintsPart S.wrote (printing s.draft s.file s.number s.sink) fault
-        (printing t.draft t.file t.number t.sink) };
+        PrintsPart S.wrote (printing (plainly s.draft.plan) s.file s.number s.sink) fault
+        (printing (plainly t.draft.plan) t.file t.number t.sink) };
 
     fn take(&mut self, whole: &Plan, piece: Piece<Shown>) -> Result<(), ReaderFault>
-        requires same { whole.now ≡ self.old.draft }
-        requires turn { HasTurn shown self.old.draft (turn_of self.old.file self.old.number) piece }
-        ensures plan { self.new.draft ≡ self.old.draft }
+        requires same { whole.now ≡ self.old.draft.plan }
+        requires turn { HasTurn shown self.old.draft.plan (turn_of self.old.file self.old.number) piece }
+        ensures plan { self.new.draft.plan ≡ self.old.draft.plan }
         ensures turn { OnOk result (turn_of self.new.file self.new.number
-            ≡ turn_after self.old.draft (turn_of self.old.file self.old.number)) }
+            ≡ turn_after self.old.draft.plan (turn_of self.old.file self.old.number)) }
         ensures follows { OnOk result (PrintsTo S.wrote
-            (printing self.old.draft self.old.file self.old.number self.old.sink)
-            (printing self.new.draft self.new.file self.new.number self.new.sink)) }
+            (printing (plainly self.old.draft.plan) self.old.file self.old.number self.old.sink)
+            (printing (plainly self.new.draft.plan) self.new.file self.new.number self.new.sink)) }
         ensures fails { IfErr result (λ fault.
             PrintsPart S.wrote
-            (printing self.old.draft self.old.file self.old.number self.old.sink) fault
-            (printing self.new.draft self.new.file self.new.number self.new.sink)) }
+            (printing (plainly self.old.draft.plan) self.old.file self.old.number self.old.sink) fault
+            (printing (plainly self.new.draft.plan) self.new.file self.new.number self.new.sink)) }
     {
         self.spares.receive(self.file, self.number);
         // a law: the items of its pieces are items of its files
@@ -141,18 +143,18 @@ impl<Y: Spares, S: LineSink> Taker<LineMaker<Y>> for Printer<Y, S> {
     }
 
     ghost follows_itself = { λ s.
-        prints_itself S.wrote S.wrote_nothing (printing s.draft s.file s.number s.sink) };
+        prints_itself S.wrote S.wrote_nothing (printing (plainly s.draft.plan) s.file s.number s.sink) };
 
     ghost follows_on = { λ s t u f h.
-        prints_then S.wrote S.wrote_on (printing s.draft s.file s.number s.sink)
-        (printing t.draft t.file t.number t.sink) (printing u.draft u.file u.number u.sink) f
+        prints_then S.wrote S.wrote_on (printing (plainly s.draft.plan) s.file s.number s.sink)
+        (printing (plainly t.draft.plan) t.file t.number t.sink) (printing (plainly u.draft.plan) u.file u.number u.sink) f
         h };
 
     ghost fails_behind = { λ s t u fault f h.
-        part_behind S.wrote S.wrote_on (printing s.draft s.file s.number s.sink)
-        (printing t.draft t.file t.number t.sink) (printing u.draft u.file u.number u.sink)
+        part_behind S.wrote S.wrote_on (printing (plainly s.draft.plan) s.file s.number s.sink)
+        (printing (plainly t.draft.plan) t.file t.number t.sink) (printing (plainly u.draft.plan) u.file u.number u.sink)
         fault f h };
 
     ghost fails_at_once = { λ s.
-        prints_no_more S.wrote S.wrote_nothing (printing s.draft s.file s.number s.sink) };
+        prints_no_more S.wrote S.wrote_nothing (printing (plainly s.draft.plan) s.file s.number s.sink) };
 }

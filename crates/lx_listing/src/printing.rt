@@ -4,7 +4,7 @@ ghost use Rattle.std.specs.Prelude.{◌≡◌, ◌<◌, ◌≤◌, OnOk, OnErr};
 ghost use Rattle.std.specs.Io.KnownBytes.{Appends};
 ghost use Rattle.lx_piece.specs.Plans.{max_workers};
 ghost use Rattle.lx_listing.specs.Appending.{AppendsPrefix};
-ghost use Rattle.lx_listing.specs.Listings.{listing_of};
+ghost use Rattle.lx_listing.specs.Listings.{listing_by, listing_of};
 ghost use Rattle.lx_listing.specs.Printing.{WrotePrefix};
 
 use crate::direct::write_files;
@@ -12,8 +12,9 @@ use crate::gathering::Gathering;
 use crate::printer::Printer;
 use crate::sink::{Lent, LineSink};
 use crate::spares::Shared;
+use crate::styled::list_plan_by;
 use crate::{LineMaker, LineWrites, Spares};
-use lx_line::LineBuffer;
+use lx_line::{LineBuffer, LineStyle, PlainStyle};
 use lx_piece::{InOrder, Plan, ReaderFault};
 use lx_post::{OpenGate, RunFault, scan_made};
 use std::alloc::Global;
@@ -21,13 +22,18 @@ use std::io::Write;
 use std::sync::Wait;
 use std::thread::Threads;
 
-// Writes the lines of the plan's files on this thread.
-fn print_to<S: LineSink + Drop>(alloc: Global, plan: &Plan, sink: S) -> (S, Result<(), RunFault>)
-    ensures ok { OnOk result.1 (S.wrote sink (listing_of plan.now) result.0) }
-    ensures part { WrotePrefix S.wrote sink (listing_of plan.now) result.0 }
+/// Writes the lines of the plan's files in a style on this thread.
+pub(crate) fn print_to<L: LineStyle + Drop, S: LineSink + Drop>(
+    alloc: Global,
+    plan: &Plan,
+    style: L,
+    sink: S,
+) -> (S, Result<(), RunFault>)
+    ensures ok { OnOk result.1 (S.wrote sink (listing_by (L.style style) plan.now) result.0) }
+    ensures part { WrotePrefix S.wrote sink (listing_by (L.style style) plan.now) result.0 }
 {
     let mut sink = sink;
-    let answer = match write_files(alloc, plan, &mut sink) {
+    let answer = match write_files(alloc, plan, style, &mut sink) {
         Ok(()) => Ok(()),
         Err(ReaderFault::Memory) => Err(RunFault::Memory),
         Err(ReaderFault::Device) => Err(RunFault::Reader),
@@ -47,7 +53,7 @@ fn scan_all_to<T: Threads + Wait + Sync, Y: Spares + Copy + Drop + Sync, S: Line
 ) -> (Printer<Y, S>, Result<(), RunFault>)
     requires some_workers { 0 < workers }
     requires few_workers { workers ≤ max_workers }
-    requires plan { printer.draft ≡ plan.now }
+    requires plan { printer.draft.plan ≡ plan.now }
     requires file { printer.file ≡ 0 }
     requires number { printer.number ≡ 0 }
     ensures ok { OnOk result.1 (S.wrote printer.sink (listing_of plan.now) result.0.sink) }
@@ -84,41 +90,23 @@ fn scan_to<T: Threads + Wait + Sync, S: LineSink + Drop>(
     (printer.into_sink(), answer)
 }
 
-// Lists the plan to a sink: by workers, or with none of them on the calling thread.
-fn list_to<T: Threads + Wait + Sync, S: LineSink + Drop>(
+// Does the same as `scan_to`, and gathers the lines before they go on. Also after a fault the gathered lines go on, unless the writer failed.
+fn scan_gathered<T: Threads + Wait + Sync, S: LineSink + Drop>(
     rt: &T,
     alloc: Global,
     plan: &Plan,
     workers: u8,
     sink: S,
 ) -> (S, Result<(), RunFault>)
-    requires { workers ≤ max_workers }
-    ensures ok { OnOk result.1 (S.wrote sink (listing_of plan.now) result.0) }
-    ensures part { WrotePrefix S.wrote sink (listing_of plan.now) result.0 }
-{
-    if workers == 0 {
-        print_to(alloc, plan, sink)
-    } else {
-        scan_to(rt, alloc, plan, workers, sink)
-    }
-}
-
-// Does the same as `list_to`, and gathers the lines before they go on. Also after a fault the gathered lines go on, unless the writer failed.
-fn list_gathered<T: Threads + Wait + Sync, S: LineSink + Drop>(
-    rt: &T,
-    alloc: Global,
-    plan: &Plan,
-    workers: u8,
-    sink: S,
-) -> (S, Result<(), RunFault>)
-    requires { workers ≤ max_workers }
+    requires some_workers { 0 < workers }
+    requires few_workers { workers ≤ max_workers }
     ensures ok { OnOk result.1 (S.wrote sink (listing_of plan.now) result.0) }
     ensures part { WrotePrefix S.wrote sink (listing_of plan.now) result.0 }
 {
     let Ok(held) = LineBuffer::new(alloc) else {
         return (sink, Err(RunFault::Memory));
     };
-    let (gathering, answer) = list_to(rt, alloc, plan, workers, Gathering::new(held, sink));
+    let (gathering, answer) = scan_to(rt, alloc, plan, workers, Gathering::new(held, sink));
     let (sink, rest) = gathering.finish();
     match rest {
         Ok(()) => (sink, answer),
@@ -142,10 +130,13 @@ pub fn list_plan<T: Threads + Wait + Sync, W: Write>(
     ensures err { OnErr result
         (AppendsPrefix (W.contents out.old) (W.contents out.new) (listing_of plan.now)) }
 {
+    if workers == 0 {
+        return list_plan_by(rt, alloc, plan, workers, PlainStyle, writes, out);
+    }
     let sink = Lent { writes, out };
     let (sink, answer) = match writes {
-        LineWrites::EachLine => list_to(rt, alloc, plan, workers, sink),
-        LineWrites::Whole => list_gathered(rt, alloc, plan, workers, sink),
+        LineWrites::EachLine => scan_to(rt, alloc, plan, workers, sink),
+        LineWrites::Whole => scan_gathered(rt, alloc, plan, workers, sink),
     };
     // taken apart, so that the final contents of the writer are known
     let Lent {
@@ -167,7 +158,7 @@ pub fn print_listing<W: Write>(alloc: Global, plan: &Plan, out: &mut W) -> Resul
         writes: LineWrites::EachLine,
         out,
     };
-    let (sink, answer) = print_to(alloc, plan, sink);
+    let (sink, answer) = print_to(alloc, plan, PlainStyle, sink);
     // taken apart, so that the final contents of the writer are known
     let Lent {
         writes: _writes,

@@ -3,12 +3,12 @@
 ghost use Rattle.std.specs.Prelude.{◌≡◌, ◌<◌, All, IfErr, OnOk};
 ghost use Rattle.lx_scan.specs.ItemParts.{IsItemOf};
 ghost use Rattle.lx_piece.specs.Plans.{bytes_of, files_of, kinds_of};
-ghost use Rattle.lx_listing.specs.Lines.{cut_lines, lines_of};
+ghost use Rattle.lx_listing.specs.Lines.{cut_lines_by, lines_of};
 ghost use Rattle.lx_listing.specs.Parts.{WrotePart};
 
 use crate::sink::LineSink;
 use crate::{Form, Shown, Spares, emptied};
-use lx_line::{PlanDraft, push_cut_line, push_each};
+use lx_line::{LineStyle, PlainStyle, PlanDraft, push_each};
 use lx_piece::{Plan, ReaderFault};
 use lx_scan::Item;
 use std::alloc::Global;
@@ -39,12 +39,12 @@ pub(crate) fn write_shown<Y: Spares, S: LineSink>(
     shown: Shown,
     alloc: Global,
     spares: &Y,
-    draft: &mut PlanDraft,
+    draft: &mut PlanDraft<PlainStyle>,
     plan: &Plan,
     file: u32,
     sink: &mut S,
 ) -> Result<Vec<u8>, ReaderFault>
-    requires draft { draft.old ≡ plan.now }
+    requires draft { draft.old.plan ≡ plan.now }
     requires plan { shown.plan ≡ plan.now }
     requires same_file { shown.file ≡ file }
     requires file { file < files_of plan.now }
@@ -73,21 +73,23 @@ pub(crate) fn write_shown<Y: Spares, S: LineSink>(
 }
 
 /// Writes the cut line of a file if its reading failed.
-pub(crate) fn write_cut<S: LineSink>(
+pub(crate) fn write_cut<L: LineStyle, S: LineSink>(
+    style: &L,
     sink: &mut S,
     block: &mut Vec<u8>,
     file: u32,
     cut: bool,
 ) -> Result<(), ReaderFault>
-    ensures ok { OnOk result (S.wrote sink.old (cut_lines file cut) sink.new) }
-    ensures part { IfErr result
-        (λ fault. WrotePart S.wrote sink.old fault (cut_lines file cut) sink.new) }
+    ensures ok { OnOk result
+        (S.wrote sink.old (cut_lines_by (L.style style.now) file cut) sink.new) }
+    ensures part { IfErr result (λ fault.
+        WrotePart S.wrote sink.old fault (cut_lines_by (L.style style.now) file cut) sink.new) }
 {
     if !cut {
         return Ok(());
     }
     block.clear();
-    let Ok(()) = push_cut_line(block, file) else {
+    let Ok(()) = style.push_cut_line(block, file) else {
         return Err(ReaderFault::Memory);
     };
     sink.write_lines(block.as_slice())?;

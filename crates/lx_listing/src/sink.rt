@@ -3,12 +3,12 @@
 ghost use Rattle.std.specs.Prelude.{◌≡◌, ◌<◌, [], ◌++◌, ℕ, All, List, IfErr, OnOk, OnErr};
 ghost use Rattle.lx_scan.specs.ItemParts.{IsItemOf};
 ghost use Rattle.lx_piece.specs.Plans.{bytes_of, files_of, kinds_of};
-ghost use Rattle.lx_listing.specs.Lines.{lines_of};
+ghost use Rattle.lx_listing.specs.Lines.{lines_by};
 ghost use Rattle.lx_listing.specs.Parts.{WrotePart};
 ghost use Rattle.lx_listing.specs.Printing.{WrotePrefix};
 
 use crate::{LineWrites, write_block};
-use lx_line::PlanDraft;
+use lx_line::{LineStyle, PlanDraft};
 use lx_piece::{Plan, ReaderFault};
 use lx_scan::FlatItem;
 use std::io::Write;
@@ -26,21 +26,22 @@ pub trait LineSink {
 
     /// Writes the lines of a file's items, which the draft makes. By default it writes them as one block. `block` is scratch memory: its contents
     /// mean nothing before and after. After a fault, a prefix of the lines was written, and whole lines if an allocation failed.
-    fn write_items(
+    fn write_items<L: LineStyle>(
         &mut self,
         block: &mut Vec<u8>,
-        draft: &mut PlanDraft,
+        draft: &mut PlanDraft<L>,
         plan: &Plan,
         file: u32,
         items: &[FlatItem],
     ) -> Result<(), ReaderFault>
-        requires draft { draft.old ≡ plan.now }
+        requires draft { draft.old.plan ≡ plan.now }
         requires file { file < files_of plan.now }
         requires items { All (IsItemOf (kinds_of plan.now) (bytes_of plan.now file)) items.now }
         ensures draft { draft.new ≡ draft.old }
-        ensures ok { OnOk result (wrote self.old (lines_of plan.now file items.now) self.new) }
-        ensures part { IfErr result
-            (λ fault. WrotePart wrote self.old fault (lines_of plan.now file items.now) self.new) }
+        ensures ok { OnOk result (wrote self.old
+            (lines_by (L.style draft.old.style) plan.now file items.now) self.new) }
+        ensures part { IfErr result (λ fault. WrotePart wrote self.old fault
+            (lines_by (L.style draft.old.style) plan.now file items.now) self.new) }
     {
         block.clear();
         let Ok(()) = draft.push_lines(block, plan, file, items) else {

@@ -1,6 +1,6 @@
 use Rattle.std.proofs.Common.{[], ◌∷◌, arith, decimal, length-append}
 use Rattle.std.proofs.lemmas.Fmt.{length-decimal-le}
-use Rattle.lx_line.proofs.Digits.{short_at}
+use Rattle.lx_line.proofs.ShortNumbers.{short_at}
 use Rattle.lx_line.proofs.Places.{Placed-is}
 use Rattle.lx_line.proofs.decimals.place_short.Goals as goal
 

@@ -3,7 +3,6 @@ use Rattle.std.specs.List.{flat_map}
 use Rattle.std.proofs.Math.Seq.{take-add}
 use Rattle.std.proofs.lemmas.Grind.{flat_map-append}
 use Rattle.std.proofs.lemmas.List.{take_all}
-use Rattle.lx_line.specs.Escapes.{escaped}
 use Rattle.lx_line.proofs.Places.{Placed-is, Placed-then}
 use Rattle.lx_line.proofs.texts.place_any_text.Goals as goal
 
@@ -14,7 +13,7 @@ text_whole escape text front rest e =
     ∙ ap (flat_map escape) (sym (take-add front rest text) ∙ take_all (front + rest) text (omega arith))
 
 pub returns-clause-placed : goal.returns-clause-placed
-returns-clause-placed c =
+returns-clause-placed g c =
     let text = c.args.text.now in
     let front = length text - 16 in
-    Placed-is (Placed-then c.place_text-end.ensures.placed c.place_copied-2.ensures.placed) (text_whole escaped text front (length text - front) (let long = c.if-text-le16.false in omega arith))
+    Placed-is (Placed-then c.place_text-end.ensures.placed c.place_copied-2.ensures.placed) (text_whole g.E.Escape.shown text front (length text - front) (let long = c.if-text-le16.false in omega arith))

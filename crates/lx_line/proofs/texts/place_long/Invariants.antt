@@ -1,15 +1,14 @@
 use Rattle.std.proofs.Common.{◌+◌, ◌-◌, ◌*◌, ◌≤◌, take, drop}
 use Rattle.std.specs.List.{flat_map}
-use Rattle.lx_line.specs.Escapes.{escaped}
 use Rattle.lx_line.specs.Placed.{Placed}
 use Rattle.lx_line.proofs.texts.place_long.Given as goal
 
 abbrev pub invariant-loop-done : goal.invariant-loop-done
-invariant-loop-done l = record {
+invariant-loop-done g l = record {
   within : l.done ≤ l.len;
-  short : l.end ≤ l.at + 4 * l.done;
-  placed : Placed l.fn.buf l.buf l.at (flat_map escaped (take l.done (drop l.start l.bytes))) l.end;
+  short : l.end ≤ l.at + 6 * l.done;
+  placed : Placed l.fn.buf l.buf l.at (flat_map g.E.Escape.shown (take l.done (drop l.start l.bytes))) l.end;
 }
 
 abbrev pub decreases-loop-done : goal.decreases-loop-done
-decreases-loop-done l = l.len - l.done
+decreases-loop-done g l = l.len - l.done

@@ -9,7 +9,7 @@ invariant-further g l = record {
   in_text : IsInText l.tables l.text l.cursor;
   memory : IsMemoryOf l.tables l.text l.memory;
   draft : l.draft ≡ l.fn.draft;
-  listed : HasListed g.S.LineSink.wrote l.plan l.file l.fn.sink l.sink (items_left l.tables l.text l.cursor);
+  listed : HasListed g.S.LineSink.wrote (g.L.LineStyle.style l.fn.draft.style) l.plan l.file l.fn.sink l.sink (items_left l.tables l.text l.cursor);
   end : l.is_full ≡ false → items_left l.tables l.text l.cursor ≡ [];
 }
 

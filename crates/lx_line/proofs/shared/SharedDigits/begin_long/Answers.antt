@@ -1,7 +1,7 @@
 use Rattle.std.proofs.Common.{◌≡◌, ◌-◌, ◌*◌, ◌/◌, ◌∙◌, ℕ, ap, arith, drop, take, take-take}
 use Rattle.std.proofs.lemmas.Fmt.{length-decimal-le}
 use Rattle.lx_line.specs.Decimals.{leading}
-use Rattle.lx_line.proofs.Digits.{kept_digits}
+use Rattle.lx_line.proofs.ShortNumbers.{kept_digits}
 use Rattle.lx_line.proofs.shared.SharedDigits.begin_long.Goals as goal
 
 pub write_digits-from-requires : goal.write_digits-from-requires

@@ -2,7 +2,7 @@ use Rattle.std.proofs.Common.{◌≡◌, ◌+◌, ◌-◌, ◌/◌, ◌%◌, ◌
 use Rattle.std.specs.Prelude.{slice_set}
 use Rattle.lx_line.specs.Decimals.{leading}
 use Rattle.lx_line.specs.declared.shared.SharedDigits.{SharedDigits}
-use Rattle.lx_line.proofs.Digits.{LastDigit, last_digit}
+use Rattle.lx_line.proofs.ShortNumbers.{LastDigit, last_digit}
 use Rattle.lx_line.proofs.shared.SharedDigits.step.Goals as goal
 
 last_of : (s : SharedDigits) → length s.front ≡ 16 → 0 < s.len → LastDigit s.front s.len (s.base / 1000)

@@ -1,0 +1,76 @@
+-- A line of fields of its parts.
+use Rattle.std.proofs.Common.{◌≡◌, ℕ, ◌+◌, ◌-◌, Bool, true, false, if◌then◌else◌, List, [], ◌∷◌, ◌++◌, take, drop, sym, ◌∙◌, ap, arith, append_assoc, append-nil}
+use Rattle.std.specs.Prelude.{codes, decimal}
+use Rattle.std.specs.List.{flat_map}
+use Rattle.lx_scan.specs.declared.item.Item.{Item}
+use Rattle.lx_scan.specs.declared.item.Item.TheVariants.{Token, Echo}
+use Rattle.lx_scan.specs.ItemParts.{kind_of_item, text_of}
+use Rattle.lx_piece.specs.Plans.{Planned, bytes_of}
+use Rattle.lx_line.specs.Escapes.{escaped}
+use Rattle.lx_line.specs.Fields.{rest_of}
+use Rattle.lx_line.specs.Lines.{name_text}
+use Rattle.lx_line.specs.Prefixes.{class_and_kind}
+use Rattle.lx_forms.specs.Forms.{PlainForm}
+use Rattle.lx_forms.specs.FormStyles.{prefix_by, prefix_in, text_prefix}
+use Rattle.lx_forms.specs.TextLines.{fields_of, file_text, text_line}
+use Rattle.lx_forms.specs.declared.format.Format.{Format}
+use Rattle.lx_forms.specs.declared.format.Format.TheVariants.{Lines}
+
+text_same : (bytes : List ℕ) (start len : ℕ) → take len (drop start bytes) ≡ take (start + len - start) (drop start bytes)
+text_same bytes start len = ap (λ (n : ℕ). take n (drop start bytes)) (let e : len ≡ start + len - start = omega arith in e)
+
+with_text : (f c k l s n t u : List ℕ) → t ≡ u →
+    ((f ++ 32 ∷ []) ++ (((c ++ 32 ∷ []) ++ k) ++ 32 ∷ [])) ++ ((l ++ 32 ∷ []) ++ ((s ++ 32 ∷ []) ++ ((n ++ 32 ∷ []) ++ (flat_map escaped t ++ 10 ∷ []))))
+    ≡ (((f ++ 32 ∷ []) ++ ((((((((c ++ 32 ∷ []) ++ k) ++ 32 ∷ []) ++ l) ++ 32 ∷ []) ++ s) ++ 32 ∷ []) ++ n)) ++ (32 ∷ [] ++ flat_map escaped u)) ++ 10 ∷ []
+with_text f c k l s n t u e = rw e (simp append_assoc)
+
+without_text : (f c k l s n : List ℕ) →
+    ((f ++ 32 ∷ []) ++ (((c ++ 32 ∷ []) ++ k) ++ 32 ∷ [])) ++ ((l ++ 32 ∷ []) ++ ((s ++ 32 ∷ []) ++ (n ++ 10 ∷ [])))
+    ≡ (((f ++ 32 ∷ []) ++ ((((((((c ++ 32 ∷ []) ++ k) ++ 32 ∷ []) ++ l) ++ 32 ∷ []) ++ s) ++ 32 ∷ []) ++ n)) ++ []) ++ 10 ∷ []
+without_text f c k l s n = simp (append_assoc, append-nil)
+
+joined : (printed : Bool) (f : List ℕ) (plan : Planned) (file : ℕ) (item : Item) →
+    (f ++ codes " " ++ class_and_kind plan (kind_of_item item)) ++ rest_of printed plan file item
+    ≡ ((f ++ codes " " ++ fields_of plan item) ++ (if printed then codes " " ++ flat_map escaped (text_of (bytes_of plan file) item) else [])) ++ codes "\n"
+joined true f plan file (Token line start len kind) =
+    let bytes = bytes_of plan file in
+    with_text f (codes "T") (name_text plan kind) (decimal line) (decimal start) (decimal len) (take len (drop start bytes)) (take (start + len - start) (drop start bytes)) (text_same bytes start len)
+joined true f plan file (Echo line start len) =
+    let bytes = bytes_of plan file in
+    with_text f (codes "E") (codes "-") (decimal line) (decimal start) (decimal len) (take len (drop start bytes)) (take (start + len - start) (drop start bytes)) (text_same bytes start len)
+joined false f plan file (Token line start len kind) = without_text f (codes "T") (name_text plan kind) (decimal line) (decimal start) (decimal len)
+joined false f plan file (Echo line start len) = without_text f (codes "E") (codes "-") (decimal line) (decimal start) (decimal len)
+
+prefix_and_rest : (form : PlainForm) (plan : Planned) (file : ℕ) (item : Item) → text_prefix form plan file (kind_of_item item) ++ rest_of form.text plan file item ≡ text_line form plan file item
+unfolding text_line
+prefix_and_rest form plan file item = joined form.text (file_text form file) plan file item
+
+pub parts_are : (form : PlainForm) (plan : Planned) (file : ℕ) (item : Item) → form.format ≡ Lines → prefix_in form plan file (kind_of_item item) ++ rest_of form.text plan file item ≡ text_line form plan file item
+parts_are form plan file item lines =
+    ap (λ (format : Format). prefix_by format form plan file (kind_of_item item) ++ rest_of form.text plan file item) lines ∙ prefix_and_rest form plan file item
+
+-- ---- a line field by field
+
+pub start_pushed : (form : PlainForm) (plan : Planned) (file : ℕ) (item : Item) (old a b c d : List ℕ) → form.text ≡ true → a ≡ old ++ file_text form file → b ≡ a ++ codes " " → c ≡ b ++ fields_of plan item → d ≡ c ++ codes " " →
+    (d ++ flat_map escaped (text_of (bytes_of plan file) item)) ++ codes "\n" ≡ old ++ text_line form plan file item
+unfolding text_line
+start_pushed form plan file item old a b c d text p q r s =
+    let shown = flat_map escaped (text_of (bytes_of plan file) item) in
+    let f = file_text form file in
+    let fields = fields_of plan item in
+    let together : (((((old ++ f) ++ codes " ") ++ fields) ++ codes " ") ++ shown) ++ codes "\n" ≡ old ++ ((((f ++ codes " ") ++ fields) ++ (codes " " ++ shown)) ++ codes "\n") = simp append_assoc in
+    ap (λ x. (x ++ shown) ++ codes "\n") (s ∙ ap (λ x. x ++ codes " ") (r ∙ ap (λ x. x ++ fields) (q ∙ ap (λ x. x ++ codes " ") p)))
+    ∙ together
+    ∙ ap (λ (printed : Bool). old ++ ((((f ++ codes " ") ++ fields) ++ (if printed then codes " " ++ shown else [])) ++ codes "\n")) (sym text)
+
+pub line_pushed : (form : PlainForm) (plan : Planned) (file : ℕ) (item : Item) (old a b c d : List ℕ) → form.text ≡ false → a ≡ old ++ file_text form file → b ≡ a ++ codes " " → c ≡ b ++ fields_of plan item → d ≡ c ++ codes "\n" →
+    d ≡ old ++ text_line form plan file item
+unfolding text_line
+line_pushed form plan file item old a b c d text p q r s =
+    let shown = flat_map escaped (text_of (bytes_of plan file) item) in
+    let f = file_text form file in
+    let fields = fields_of plan item in
+    let together : (((old ++ f) ++ codes " ") ++ fields) ++ codes "\n" ≡ old ++ ((((f ++ codes " ") ++ fields) ++ []) ++ codes "\n") = simp (append_assoc, append-nil) in
+    s ∙ ap (λ x. x ++ codes "\n") (r ∙ ap (λ x. x ++ fields) (q ∙ ap (λ x. x ++ codes " ") p))
+    ∙ together
+    ∙ ap (λ (printed : Bool). old ++ ((((f ++ codes " ") ++ fields) ++ (if printed then codes " " ++ shown else [])) ++ codes "\n")) (sym text)

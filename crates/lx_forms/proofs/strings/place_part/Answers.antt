@@ -1,9 +1,0 @@
-use Rattle.std.proofs.Common.{arith}
-use Rattle.lx_forms.specs.JsonLines.{string_escaped}
-use Rattle.lx_line.proofs.Unescaped.{plain_and_one}
-use Rattle.lx_forms.proofs.strings.place_part.Goals as goal
-
-pub returns-clause-placed : goal.returns-clause-placed
-returns-clause-placed c =
-    let count = c.min-count.result in
-    plain_and_one string_escaped c.args.bytes.now c.args.from count (omega arith) c.place_16-end.ensures (c.plain_16.ensures count (omega arith) (omega arith)) c.place_string_byte-end.ensures.placed

@@ -1,0 +1,32 @@
+-- The style of a form's lines.
+use Rattle.std.specs.Prelude.{ℕ, if◌then◌else◌, List, [], ◌++◌, Option, codes}
+use Rattle.lx_rules.specs.declared.rule.Kind.{Kind}
+use Rattle.lx_scan.specs.declared.item.Item.{Item}
+use Rattle.lx_piece.specs.Plans.{Planned}
+use Rattle.lx_line.specs.Prefixes.{class_and_kind}
+use Rattle.lx_line.specs.Styles.{Style}
+use Rattle.lx_forms.specs.declared.format.Format.{Format}
+use Rattle.lx_forms.specs.declared.format.Format.TheVariants.{Lines, Json}
+use Rattle.lx_forms.specs.Forms.{PlainForm, passes}
+use Rattle.lx_forms.specs.FormListings.{cut_line_in, line_in}
+use Rattle.lx_forms.specs.JsonParts.{json_prefix}
+use Rattle.lx_forms.specs.TextLines.{file_text}
+
+-- the line of an item, if it is printed
+abbrev pub item_line : PlainForm → Planned → ℕ → Item → List ℕ
+item_line form plan file item = if passes form item then line_in form plan file item else []
+
+abbrev pub style_of : PlainForm → Style
+style_of form = record { line = item_line form; cut_line = cut_line_in form }
+
+-- the part of a line of fields before the number of the line
+abbrev pub text_prefix : PlainForm → Planned → ℕ → Option Kind → List ℕ
+text_prefix form plan file kind = file_text form file ++ codes " " ++ class_and_kind plan kind
+
+-- the part of a line before the number of the line
+abbrev pub prefix_by : Format → PlainForm → Planned → ℕ → Option Kind → List ℕ
+prefix_by Lines form plan file kind = text_prefix form plan file kind
+prefix_by Json form plan file kind = json_prefix form plan file kind
+
+abbrev pub prefix_in : PlainForm → Planned → ℕ → Option Kind → List ℕ
+prefix_in form plan file kind = prefix_by form.format form plan file kind

@@ -1,0 +1,93 @@
+//! The style of a form's lines.
+
+ghost use Rattle.lx_forms.specs.Views.{form_view};
+
+use crate::form::Form;
+use crate::format::Format;
+use crate::json_lines::{place_json_line, place_json_prefix, push_json_cut_line, push_json_line};
+use crate::text_lines::{place_text_line, place_text_prefix, push_text_cut_line, push_text_start};
+use lx_line::{Draft, LinePrefix, LineStyle};
+use lx_piece::Plan;
+use lx_rules::rule::Kind;
+use lx_scan::{FlatItem, Item};
+use std::alloc::AllocError;
+
+/// The style of a form's lines.
+#[derive(Clone, Copy)]
+pub struct FormStyle<'a> {
+    pub form: &'a Form<'a>,
+}
+
+impl<'a> LinePrefix for FormStyle<'a> {
+    ghost use Rattle.lx_forms.specs.FormStyles.{prefix_in};
+
+    ghost prefix = { λ s plan file kind. prefix_in (form_view s.form.now) plan file kind };
+
+    fn place_prefix(
+        &self,
+        buf: &mut [u8],
+        plan: &Plan,
+        file: u32,
+        kind: Option<Kind>,
+    ) -> Option<usize> {
+        match self.form.format {
+            Format::Lines => place_text_prefix(self.form, buf, plan, file, kind),
+            Format::Json => place_json_prefix(self.form, buf, plan, file, kind),
+        }
+    }
+}
+
+impl<'a> LineStyle for FormStyle<'a> {
+    ghost use Rattle.lx_forms.specs.FormStyleLaws.{form_whole};
+    ghost use Rattle.lx_forms.specs.FormStyles.{style_of};
+
+    ghost style = { λ s. style_of (form_view s.form.now) };
+
+    #[inline(always)]
+    fn place_line(
+        &self,
+        draft: &mut Draft,
+        buf: &mut [u8],
+        at: usize,
+        plan: &Plan,
+        file: u32,
+        bytes: &[u8],
+        item: &FlatItem,
+    ) -> Option<usize> {
+        if !self.form.passes_flat(item) {
+            return Some(at);
+        }
+        match self.form.format {
+            Format::Lines => place_text_line(self, draft, buf, at, plan, file, bytes, item),
+            Format::Json => place_json_line(self, draft, buf, at, plan, file, bytes, item),
+        }
+    }
+
+    fn push_start(
+        &self,
+        block: &mut Vec<u8>,
+        plan: &Plan,
+        file: u32,
+        item: &Item,
+    ) -> Result<bool, AllocError> {
+        if !self.form.passes(item) {
+            return Ok(false);
+        }
+        match self.form.format {
+            Format::Lines => push_text_start(block, self.form, plan, file, item),
+            Format::Json => {
+                push_json_line(block, self.form, plan, file, item)?;
+                Ok(false)
+            }
+        }
+    }
+
+    fn push_cut_line(&self, block: &mut Vec<u8>, file: u32) -> Result<(), AllocError> {
+        match self.form.format {
+            Format::Lines => push_text_cut_line(block, self.form, file),
+            Format::Json => push_json_cut_line(block, self.form, file),
+        }
+    }
+
+    ghost whole = { λ s. form_whole (form_view s.form.now) };
+}

@@ -1,0 +1,88 @@
+//! Styles of lines.
+
+ghost use Rattle.std.specs.Prelude.{◌≡◌, ◌+◌, ◌<◌, ◌≤◌, ◌++◌, ℕ, IfOk, List, MatchOption, OnOk, Option, codes, false, length, take, true};
+ghost use Rattle.std.specs.List.{flat_map};
+ghost use Rattle.lx_rules.specs.declared.rule.Kind.{Kind};
+ghost use Rattle.lx_scan.specs.ItemParts.{IsItemOf, text_of};
+ghost use Rattle.lx_piece.specs.Plans.{Planned, bytes_of, files_of, kinds_of};
+ghost use Rattle.lx_line.specs.Escapes.{escaped};
+ghost use Rattle.lx_line.specs.Placed.{Placed};
+ghost use Rattle.lx_line.specs.Prefixes.{ArePrefixesOf, IsKindOf};
+ghost use Rattle.lx_line.specs.Styles.{HasWholeLines, Style};
+
+use crate::draft::Draft;
+use lx_piece::Plan;
+use lx_rules::rule::Kind;
+use lx_scan::{FlatItem, Item};
+use std::alloc::AllocError;
+
+/// The prefixes of a style's lines.
+pub trait LinePrefix {
+    /// The part of a line before the number of the line. Items of a kind share it.
+    ghost prefix: { Self → Planned → ℕ → Option Kind → List ℕ };
+
+    /// Places a prefix at the front of a buffer. Returns `None` if it is too long.
+    fn place_prefix(
+        &self,
+        buf: &mut [u8],
+        plan: &Plan,
+        file: u32,
+        kind: Option<Kind>,
+    ) -> Option<usize>
+        requires room { 1024 ≤ length buf.old }
+        requires kind { IsKindOf plan.now kind }
+        ensures { MatchOption result (Unit {0})
+            (λ end. Placed buf.old buf.new 0 (prefix self.now plan.now file kind) end) };
+}
+
+/// The style of a listing's lines, and the two ways to make them: placed from ready parts, or appended field by field.
+pub trait LineStyle: LinePrefix {
+    /// The line of an item, or nothing for an item without one, and the line of a file whose reading failed.
+    ghost style: { Self → Style };
+
+    /// Places the line of an item. Returns `None` if it needs the plain way: for a long line, and for a text near the end of the file, after which 16
+    /// bytes can't be read.
+    fn place_line(
+        &self,
+        draft: &mut Draft,
+        buf: &mut [u8],
+        at: usize,
+        plan: &Plan,
+        file: u32,
+        bytes: &[u8],
+        item: &FlatItem,
+    ) -> Option<usize>
+        requires room { at + 800 ≤ length buf.old }
+        requires bytes { bytes.now ≡ bytes_of plan.now file }
+        requires item { IsItemOf (kinds_of plan.now) (bytes_of plan.now file) item.now }
+        requires prefixes { ArePrefixesOf (Self.prefix self.now plan.now file) draft.old.prefixes }
+        ensures placed { MatchOption result (buf.new ≡ buf.old) (λ end.
+            take end buf.new ≡ take at buf.old ++ (style self.now).line plan.now file item.now) }
+        ensures short { MatchOption result (Unit {0}) (λ end. end ≤ at + 800) }
+        ensures len { length buf.new ≡ length buf.old }
+        ensures prefixes { ArePrefixesOf (Self.prefix self.now plan.now file) draft.new.prefixes };
+
+    /// Appends the line of an item up to its text. Returns true if the line goes on with the text, escaped, and a line feed, and false if it is whole.
+    /// If an allocation fails, a part of it was appended.
+    fn push_start(
+        &self,
+        block: &mut Vec<u8>,
+        plan: &Plan,
+        file: u32,
+        item: &Item,
+    ) -> Result<bool, AllocError>
+        requires file { file < files_of plan.now }
+        requires item { IsItemOf (kinds_of plan.now) (bytes_of plan.now file) item.now }
+        ensures start { IfOk result (λ goes_on. goes_on ≡ true
+            → (block.new.items ++ flat_map escaped (text_of (bytes_of plan.now file) item.now))
+            ++ codes "\n" ≡ block.old.items ++ (style self.now).line plan.now file item.now) }
+        ensures whole { IfOk result (λ goes_on. goes_on ≡ false
+            → block.new.items ≡ block.old.items ++ (style self.now).line plan.now file item.now) };
+
+    /// Appends the line of a file whose reading failed.
+    fn push_cut_line(&self, block: &mut Vec<u8>, file: u32) -> Result<(), AllocError>
+        ensures { OnOk result
+            (block.new.items ≡ block.old.items ++ (style self.now).cut_line file) };
+
+    ghost whole: { (s : Self) → HasWholeLines (style s) };
+}
