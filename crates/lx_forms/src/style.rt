@@ -23,6 +23,11 @@ impl<'a> LinePrefix for FormStyle<'a> {
 
     ghost prefix = { λ s plan file kind. prefix_in (form_view s.form.now) plan file kind };
 
+    #[inline(always)]
+    fn are_long() -> bool {
+        true
+    }
+
     fn place_prefix(
         &self,
         buf: &mut [u8],

@@ -208,6 +208,11 @@ impl LinePrefix for PlainStyle {
 
     ghost prefix = { λ _ plan file kind. prefix_text plan file kind };
 
+    #[inline(always)]
+    fn are_long() -> bool {
+        false
+    }
+
     fn place_prefix(
         &self,
         buf: &mut [u8],

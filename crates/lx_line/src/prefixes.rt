@@ -85,9 +85,9 @@ impl Prefix {
         None
     }
 
-    // Places the prefix, if it is kept.
+    // Places the prefix, if it is kept, and if it is short or the style has long ones.
     #[inline(always)]
-    fn place(&self, buf: &mut [u8], at: usize) -> Option<usize>
+    fn place<L: LinePrefix>(&self, buf: &mut [u8], at: usize) -> Option<usize>
         requires { at + 128 ≤ length buf.old }
         ensures placed { MatchOption result (buf.new ≡ buf.old) (λ end.
             (self.now.len ≤ 128)
@@ -96,6 +96,9 @@ impl Prefix {
     {
         if self.len <= 32 {
             return Some(place_32(buf, at, &self.text, 0, self.len));
+        }
+        if !L::are_long() {
+            return None;
         }
         self.place_long(buf, at)
     }
@@ -153,7 +156,7 @@ impl Prefixes {
     {
         let prefix = Prefix::of_label(style, plan, file, label);
         self.slots[slot_of(label)] = Slot { label, prefix };
-        prefix.place(buf, at)
+        prefix.place::<L>(buf, at)
     }
 
     /// Places the prefix of the line of an item with a label. Returns `None` if it is too long.
@@ -178,7 +181,7 @@ impl Prefixes {
     {
         let slot = &self.slots[slot_of(label)];
         if slot.label == label {
-            return slot.prefix.place(buf, at);
+            return slot.prefix.place::<L>(buf, at);
         }
         self.place_new(style, buf, at, plan, file, label)
     }

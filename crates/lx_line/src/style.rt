@@ -21,6 +21,9 @@ pub trait LinePrefix {
     /// The part of a line before the number of the line. Items of a kind share it.
     ghost prefix: { Self → Planned → ℕ → Option Kind → List ℕ };
 
+    /// Returns true if prefixes of more than 32 bytes are worth keeping. Where they are rare, each line would pay for the test.
+    fn are_long() -> bool;
+
     /// Places a prefix at the front of a buffer. Returns `None` if it is too long.
     fn place_prefix(
         &self,
