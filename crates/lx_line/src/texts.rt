@@ -9,14 +9,20 @@ use crate::place::place_16;
 
 // A placed part of a text: the position where it ends, and the number of text bytes in it.
 #[derive(Clone, Copy, Drop)]
-struct Part {
+struct PlacedPart {
     end: usize,
     count: usize,
 }
 
 // Places up to 16 bytes as they are, and the first one that is escaped.
 #[inline(always)]
-fn place_part<E: Escape>(buf: &mut [u8], at: usize, bytes: &[u8], from: usize, most: usize) -> Part
+fn place_part<E: Escape>(
+    buf: &mut [u8],
+    at: usize,
+    bytes: &[u8],
+    from: usize,
+    most: usize,
+) -> PlacedPart
     requires some { 0 < most }
     requires text { from + most + 16 ≤ length bytes.now }
     requires room { at + 22 ≤ length buf.old }
@@ -29,10 +35,10 @@ fn place_part<E: Escape>(buf: &mut [u8], at: usize, bytes: &[u8], from: usize, m
     let count = E::plain_16(bytes, from).min(most);
     let end = place_16(buf, at, bytes, from, count);
     if count == 16 || count == most {
-        return Part { end, count };
+        return PlacedPart { end, count };
     }
     let end = E::place_shown(buf, end, bytes[from + count]);
-    Part {
+    PlacedPart {
         end,
         count: count + 1,
     }

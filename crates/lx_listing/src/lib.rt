@@ -20,7 +20,7 @@ mod writing;
 pub use listing::Listing;
 pub use maker::LineMaker;
 pub use printing::{list_plan, print_listing};
-pub use shown::{Form, Shown};
+pub use shown::{Shown, ShownForm};
 pub use sink::{Lent, LineSink};
 pub use spare_memory::{Spares, emptied};
 pub use styled::list_plan_by;

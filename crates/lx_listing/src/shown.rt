@@ -13,7 +13,7 @@ use std::snapshot::Snapshot;
 
 /// The contents of a piece: the items as they were cut, the items as they were given, or their lines one after the other.
 #[derive(Drop)]
-pub enum Form {
+pub enum ShownForm {
     Bare(ItemList),
     Given(Vec<Item>),
     Lines {
@@ -26,7 +26,7 @@ pub enum Form {
 /// The contents of a listing's piece: its items, or their lines. Contracts see only the items.
 #[derive(Drop)]
 pub struct Shown {
-    form: Form,
+    form: ShownForm,
     file: u32,
     plan: Snapshot<Plan>,
 }
@@ -53,7 +53,7 @@ impl Shown {
         ensures { result ≡ shown plan.now file items }
     {
         Shown {
-            form: Form::Bare(items),
+            form: ShownForm::Bare(items),
             file,
             plan: Snapshot::of(plan),
         }
@@ -65,7 +65,7 @@ impl Shown {
         ensures { result ≡ shown plan.now file items.items }
     {
         Shown {
-            form: Form::Given(items),
+            form: ShownForm::Given(items),
             file,
             plan: Snapshot::of(plan),
         }
@@ -78,14 +78,14 @@ impl Shown {
     {
         let items = Snapshot::of(items);
         Shown {
-            form: Form::Lines { block, items },
+            form: ShownForm::Lines { block, items },
             file,
             plan: Snapshot::of(plan),
         }
     }
 
     /// Returns the items or their lines.
-    pub fn into_form(self) -> Form
+    pub fn into_form(self) -> ShownForm
         ensures { IsFormOf self.plan self.file self.items result }
     {
         let Shown {
@@ -99,9 +99,9 @@ impl Shown {
     /// Returns the approximate memory of the contents, in bytes.
     pub fn weight(&self) -> u64 {
         match &self.form {
-            Form::Bare(items) => FLAT_ITEM.saturating_mul(items.capacity() as u64),
-            Form::Given(items) => ITEM.saturating_mul(items.capacity() as u64),
-            Form::Lines { block, .. } => block.capacity() as u64,
+            ShownForm::Bare(items) => FLAT_ITEM.saturating_mul(items.capacity() as u64),
+            ShownForm::Given(items) => ITEM.saturating_mul(items.capacity() as u64),
+            ShownForm::Lines { block, .. } => block.capacity() as u64,
         }
     }
 }

@@ -7,7 +7,7 @@ ghost use Rattle.lx_listing.specs.Lines.{cut_lines_by, lines_of};
 ghost use Rattle.lx_listing.specs.Parts.{WrotePart};
 
 use crate::sink::LineSink;
-use crate::{Form, Shown, Spares, emptied};
+use crate::{Shown, ShownForm, Spares, emptied};
 use lx_line::{LineStyle, PlainStyle, PlanDraft, push_each};
 use lx_piece::{Plan, ReaderFault};
 use lx_scan::Item;
@@ -54,18 +54,18 @@ pub(crate) fn write_shown<Y: Spares, S: LineSink>(
         (λ fault. WrotePart S.wrote sink.old fault (lines_of plan.now file shown.items) sink.new) }
 {
     match shown.into_form() {
-        Form::Bare(items) => {
+        ShownForm::Bare(items) => {
             let mut block = emptied(alloc, spares.take_block(file));
             sink.write_items(&mut block, draft, plan, file, items.as_slice())?;
             spares.give_list(file, items);
             Ok(block)
         }
-        Form::Given(items) => {
+        ShownForm::Given(items) => {
             let mut block = emptied(alloc, spares.take_block(file));
             write_given(items.as_slice(), &mut block, plan, file, sink)?;
             Ok(block)
         }
-        Form::Lines { block, .. } => {
+        ShownForm::Lines { block, .. } => {
             sink.write_lines(block.as_slice())?;
             Ok(block)
         }
