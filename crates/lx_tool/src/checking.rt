@@ -16,7 +16,7 @@ use crate::output::write_text;
 use crate::source::Sources;
 use lx_check::{Report, check};
 use lx_cli::{CheckWords, VERSION};
-use lx_report::{Said, ReportSubject, report_of, sarif_of};
+use lx_report::{ReportSubject, Said, report_of, sarif_of};
 use lx_warnings::{KindSet, kind_named};
 use std::alloc::{AllocError, Global};
 use std::io::Write;
