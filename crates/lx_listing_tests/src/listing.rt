@@ -160,7 +160,7 @@ fn gathers_lines<R: Abort + AllocGlobal + Threads + Wait + Sync>(rt: &R, plan: &
     let wanted = listing_of(rt, plan);
     same(rt, &wanted.len(), &151_890);
     gathers(rt, plan, &wanted, 0, Ok(()), 151_890);
-    gathers(rt, plan, &wanted, 2, Err(RunFault::Reader), 130_606);
+    gathers(rt, plan, &wanted, 2, Err(RunFault::Reader), 130_283);
 }
 
 /// Asserts the same for the plan of these Echoes.
@@ -169,7 +169,7 @@ fn gathers_echoes<R: Abort + AllocGlobal + Threads + Wait + Sync>(rt: &R, text: 
     gathers_lines(rt, &plan);
 }
 
-/// The listing of 9,000 Echoes of one byte has 151,890 bytes. Its first 7,748 lines are written together: after them, 131,072 bytes have less room
+/// The listing of 9,000 Echoes of one byte has 151,890 bytes. Its first 7,729 lines are written together: after them, 131,072 bytes have less room
 /// left than a line may take.
 #[test]
 fn gathers_lines_until_they_are_worth_a_write(rt: HostRuntime) {
