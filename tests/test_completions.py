@@ -40,7 +40,7 @@ class Completions(Case):
         for name in NAMES[:2]:
             words = re.findall(r"(?<=[\s\"'(])--?[a-zA-Z0-9][\w-]*(?=[\s\"')\[])", (FOLDER / name).read_text())
             known = set().union(*helped.values())
-            own = {"-n", "-z", "-F", "-o", "-t", "-C", "-W", "-a"}
+            own = {"-eq", "-n", "-z", "-F", "-o", "-t", "-C", "-W", "-a"}
             self.expect(f"options of completions/{name} that no help has", sorted(set(words) - known - own), [])
 
     def bash(self, *words):
@@ -53,6 +53,8 @@ class Completions(Case):
         self.expect("no options of gen in check", "--direct" in self.bash("check", "--"), False)
         self.expect("formats", self.bash("run", "--format", ""), ["text", "json"])
         self.expect("files", self.bash("gen", "-o", ""), [])
+        self.expect("warnings", self.bash("check", "-W", "no-never-c"), ["no-never-chosen"])
+        self.expect("topics", self.bash("explain", "E10"), ["E10"])
 
     def test_zsh(self):
         def zsh(*words):
@@ -73,6 +75,8 @@ class Completions(Case):
         self.check("options of gen", "--direct" in fish("lx gen --"), fish("lx gen --"))
         self.check("no options of gen in check", "--direct" not in fish("lx check --"))
         self.expect("formats", sorted(fish("lx run --format ")), ["json", "text"])
+        self.expect("warnings", fish("lx check -W no-never-c"), ["no-never-chosen"])
+        self.expect("topics", fish("lx explain group-ope"), ["group-open"])
 
 
 if __name__ == "__main__":
