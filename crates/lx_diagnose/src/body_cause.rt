@@ -47,11 +47,13 @@ struct OpenGroups {
 
 fn kind_of(lexeme: &Lexeme) -> LexemeEffect {
     match lexeme {
-        Lexeme::Set(_) | Lexeme::Quoted(_, _) | Lexeme::Name(_) => LexemeEffect::Unit,
+        Lexeme::Set(_) | Lexeme::Quoted(_, _) | Lexeme::Name(_) | Lexeme::EmptyWord => {
+            LexemeEffect::Unit
+        }
         Lexeme::Interval(_, _) => LexemeEffect::Interval,
         Lexeme::OpenGroup => LexemeEffect::Open,
         Lexeme::CloseGroup => LexemeEffect::Close,
-        Lexeme::Star | Lexeme::Plus | Lexeme::Question => LexemeEffect::Repeat,
+        Lexeme::Repeat(_, _) => LexemeEffect::Repeat,
         Lexeme::Bar => LexemeEffect::Bar,
     }
 }

@@ -12,7 +12,7 @@ use Rattle.lx_ere.specs.Sequences.{Opened}
 use Rattle.lx_ere.specs.Brackets.{BracketPosition, opening, behind_caret, inside, is_inside, is_opening, begins_with, opens_inner, stands_alone, range_follows, Point, plain_point, escaped, first_bracket, outer_dash, collating, RangeEnd, end_point, end_dash, class_ranges, Member, point, range, equivalence, class, in_members, Bracket, matching, excluding}
 use Rattle.lx_ere.specs.Spelling.{is_name_byte}
 use Rattle.lx_ere.specs.Lexing.{run_len, behind_byte, escape_at, marked_byte_at, bare_point_at, point_at, range_end_at, range_from, member_from, class_of, class_at, begins_pair, member_at, members_at, bracket_at}
-use Rattle.lx_ere.proofs.Choices.{pick_first, pick_second, cases_of, no_none, same_some, map_is, then_is, eq_other, begins_is, behind_byte_is, behind_byte_at, IsSpelledPrefix}
+use Rattle.lx_ere.specs.ChoiceLaws.{pick_first, pick_second, cases_of, no_none, same_some, map_is, then_is, eq_other, begins_is, behind_byte_is, behind_byte_at, IsSpelledPrefix}
 use Rattle.lx_ere.proofs.RunLemmas.{run_whole, take_prefix, drop_prefix, rejoin}
 use Rattle.lx_ere.proofs.EscapeLemmas.{escape_complete, escape_sound}
 use Rattle.lx_ere.proofs.SequenceLemmas.{opened_complete, opened_sound}

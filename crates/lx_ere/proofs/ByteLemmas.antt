@@ -1,4 +1,4 @@
--- The contents of the set of the bytes that pass a test.
+-- The words that keep the set of the bytes that pass a test.
 use Rattle.std.proofs.Common.{◌≡◌, ◌≢◌, ℕ, zero, suc, ◌+◌, ◌-◌, ◌*◌, ◌/◌, ◌%◌, ◌^◌, ◌<◌, ◌≤◌, max, Bool, true, false, ◌&&◌, ◌||◌, not, nat_eq, nat_lt, nat_le, cond, List, [], ◌∷◌, filter, refl, sym, ap, ◌∙◌, arith, get_or, set, length, bit_and, bit_or, inl, inr, get_or-set_same, get_or-set_other, w64, take, add-one}
 use Rattle.std.specs.List.{list_any}
 use Rattle.std.proofs.lemmas.Bool.Decides.{nat_tests}
@@ -8,54 +8,12 @@ use Rattle.std.proofs.lemmas.Nat.Bits.{shr_and_one, bit_at_set_same, bit_at_set_
 use Rattle.std.proofs.lemmas.Bool.{cases_eq}
 use Rattle.std.specs.Bool.{Decides}
 use Rattle.std.specs.Cmp.Lexicographic.{pointwise, bytes_decides}
-use Rattle.lx_ere.specs.Bytes.{numbers_from, all_bytes, bytes_where, has_bit, is_between, in_ranges}
-
-any_filter : (test : ℕ → Bool) (xs : List ℕ) (q : ℕ) → list_any (λ y. nat_eq y q) (filter test xs) ≡ (test q && list_any (λ y. nat_eq y q) xs)
-any_filter test [] q = and_none (test q)
-  where
-    and_none : (b : Bool) → false ≡ (b && false)
-    and_none true = refl
-    and_none false = refl
-any_filter test (x ∷ xs) q = go (test x) refl (nat_eq x q) refl (any_filter test xs q)
-  where
-    go : (b : Bool) → test x ≡ b → (d : Bool) → nat_eq x q ≡ d → list_any (λ y. nat_eq y q) (filter test xs) ≡ (test q && list_any (λ y. nat_eq y q) xs) →
-        list_any (λ y. nat_eq y q) (cond b (x ∷ filter test xs) (filter test xs)) ≡ (test q && (d || list_any (λ y. nat_eq y q) xs))
-    go true e true f h = let same : x ≡ q = grind (arith, nat_tests) in rw (f, ← same, e) refl
-    go true e false f h = rw f h
-    go false e true f h = let same : x ≡ q = grind (arith, nat_tests) in let no : test q ≡ false = rw (← same) e in rw no at h ∙ rw no refl
-    go false e false f h = h
-
-any_number : (n k q : ℕ) → list_any (λ y. nat_eq y q) (numbers_from n k) ≡ (nat_le n q && nat_lt q (n + k))
-any_number n zero q = grind (arith, nat_tests)
-any_number n (suc k) q = grind (arith, nat_tests, any_number (suc n) k q)
-
--- a byte is in the set if the test is true of it
-pub contains_where : (test : ℕ → Bool) (q : ℕ) → q < 256 → byte_sets.contains (bytes_where test) q ≡ test q
-unfolding all_bytes
-contains_where test q h =
-    let within : (nat_le 0 q && nat_lt q 256) ≡ true = grind (arith, nat_tests) in
-    byte_sets.contains-from_list_nat (filter test all_bytes) q ∙ (any_filter test all_bytes q ∙ (rw (any_number 0 256 q) (rw within (and_true (test q)))))
-  where
-    and_true : (b : Bool) → (b && true) ≡ b
-    and_true true = refl
-    and_true false = refl
-
-filter_same : (p q : ℕ → Bool) (n k : ℕ) → ((b : ℕ) → b < n + k → p b ≡ q b) → filter p (numbers_from n k) ≡ filter q (numbers_from n k)
-filter_same p q n zero h = refl
-filter_same p q n (suc k) h = rw (h n (omega arith), filter_same p q (suc n) k (λ b lt. h b (omega (arith, lt)))) refl
-
--- two tests that agree on bytes make one set
-pub same_where : (p q : ℕ → Bool) → ((b : ℕ) → b < 256 → p b ≡ q b) → bytes_where p ≡ bytes_where q
-unfolding all_bytes
-same_where p q h = ap (λ xs. byte_sets.from_list xs) (filter_same p q 0 256 (λ b lt. h b (omega (arith, lt))))
+use Rattle.lx_ere.specs.Bytes.{bytes_where, has_bit, is_between, in_ranges}
+use Rattle.lx_ere.specs.ByteLaws.{agree, contains_where, same_where}
 
 -- the shifted word's lowest bit is the bit
 pub has_is : (words : List ℕ) (b : ℕ) → b < 256 → nat_eq (bit_and (get_or words (b / 64) 0 / 2 ^ (b % 64)) 1) 1 ≡ byte_sets.contains (bytes_where (has_bit words)) b
 has_is words b h = rw (shr_and_one (get_or words (b / 64) 0) (b % 64)) (sym (contains_where (has_bit words) b h))
-
--- tests that make one set agree on bytes
-pub agree : (p t : ℕ → Bool) → bytes_where p ≡ bytes_where t → (q : ℕ) → q < 256 → p q ≡ t q
-agree p t e q h = sym (contains_where p q h) ∙ (ap (λ s. byte_sets.contains s q) e ∙ contains_where t q h)
 
 -- the words with the bit of a byte set
 abbrev with_bit : List ℕ → ℕ → List ℕ

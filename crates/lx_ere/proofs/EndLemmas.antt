@@ -3,7 +3,7 @@ use Rattle.std.proofs.Common.{◌≡◌, ℕ, true, ◌&&◌, nat_eq, List, [], 
 use Rattle.std.proofs.lemmas.Bool.{eqb-true, and_parts}
 use Rattle.lx_ere.specs.Brackets.{begins_with}
 use Rattle.lx_ere.specs.PatternGrammar.{BehindQuotes, quote_escape, quote_open, quote_slash, BehindMark, mark_closes, IsInner, BehindBrackets, bracket_escape, bracket_open, bracket_slash, bracket_inner, BehindPattern, at_end, past_escape, past_slash}
-use Rattle.lx_ere.proofs.Choices.{begins_is}
+use Rattle.lx_ere.specs.ChoiceLaws.{begins_is}
 
 pub no_bytes : (text : List ℕ) → length text ≡ 0 → text ≡ []
 no_bytes [] h = refl

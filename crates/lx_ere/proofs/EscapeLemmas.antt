@@ -7,7 +7,7 @@ use Rattle.std.proofs.lemmas.Bool.{cases_lt, ltb-true, eqb-true, eqb-false}
 use Rattle.std.proofs.lemmas.Bool.Decides.{nat_tests}
 use Rattle.lx_ere.specs.Escapes.{is_digit, number_of, NoneFirst, letter_byte, Escape, letter, octal, hexadecimal, only_x, itself}
 use Rattle.lx_ere.specs.Lexing.{run_len, byte_of, number_at, hexadecimal_at, letter_or_other, escape_at}
-use Rattle.lx_ere.proofs.Choices.{pick_first, pick_second, eq_other}
+use Rattle.lx_ere.specs.ChoiceLaws.{pick_first, pick_second, eq_other}
 use Rattle.lx_ere.proofs.RunLemmas.{run_len-append, take_prefix, drop_prefix, IsRun, run_is, take_len, rejoin, run_positive}
 
 byte_of_small : (base : ℕ) (digits : List ℕ) → number_of base digits < 256 → byte_of base digits ≡ Some (number_of base digits)

@@ -1,6 +1,5 @@
 pub mod BracketLemmas
 pub mod ByteLemmas
-pub mod Choices
 pub mod Deciding
 pub mod EndLemmas
 pub mod EscapeLemmas
@@ -8,7 +7,6 @@ pub mod LeastEnd
 pub mod MemberLoop
 pub mod NumberLemmas
 pub mod OrderedBounds
-pub mod Parser
 pub mod QuoteLoop
 pub mod ReachLemmas
 pub mod ReadLemmas

@@ -6,10 +6,11 @@ use Rattle.std.specs.FinSet as set
 use Rattle.lx_ere.specs.Bytes.{bytes_where, in_ranges}
 use Rattle.lx_ere.specs.Brackets.{BracketPosition, inside, behind_caret, begins_with, Member, in_members}
 use Rattle.lx_ere.specs.Lexing.{all_items_at, member_at, members_at, members_set, with_members, bracket_at}
-use Rattle.lx_ere.proofs.Choices.{pick_first, no_none, same_some}
-use Rattle.lx_ere.proofs.ByteLemmas.{same_where}
+use Rattle.lx_ere.specs.ChoiceLaws.{pick_first, no_none, same_some}
+use Rattle.lx_ere.specs.ByteLaws.{same_where}
 use Rattle.lx_ere.proofs.BracketLemmas.{member_complete, member_sound, member_some, member_closes}
-use Rattle.lx_ere.proofs.SequenceLemmas.{Scanned, scan_start, scan_step, scan_end, scan_none, item_shorter}
+use Rattle.lx_ere.specs.ScanLaws.{Scanned, scan_start, scan_step, scan_end, scan_none}
+use Rattle.lx_ere.proofs.SequenceLemmas.{item_shorter}
 
 or_none : (a : Bool) → (a || false) ≡ a
 or_none true = refl

@@ -8,14 +8,14 @@ use Rattle.std.proofs.lemmas.List.Folds.{list_all-append}
 use Rattle.lx_ere.specs.Bytes.{byte_set}
 use Rattle.lx_ere.specs.Regex.{Regex, Reading, one_of, then}
 use Rattle.lx_ere.specs.Bounds.{is_ordered, has_ordered_bounds}
-use Rattle.lx_ere.specs.Grammar.{Lexeme, set_of, quoted, name, interval, open_group, close_group, star, plus, question, bar, joined, IsAlternation, branch_alone, or_branch, IsBranch, unit_alone, then_unit, then_interval, IsUnit, a_set, a_string, a_name, a_group, any_times, some_times, at_most_once}
+use Rattle.lx_ere.specs.Grammar.{Lexeme, set_of, quoted, name, interval, repeat, empty_word, open_group, close_group, bar, joined, IsAlternation, branch_alone, or_branch, IsBranch, unit_alone, then_unit, then_interval, IsUnit, a_set, a_string, a_name, a_group, an_empty_word, repeated}
 use Rattle.lx_ere.specs.Spelling.{is_plain, byte_lexeme, Spells, of_byte, of_escape, of_string, of_bracket, of_name, exactly, at_least, between, Lexes}
 use Rattle.lx_ere.specs.Pattern.{IsPattern, IsSubstitute}
 
 both : (a b : Bool) → IsTrue a → IsTrue b → IsTrue (a && b)
 both a b e f = ap (λ x. x && b) e ∙ f
 
--- an interval's bounds are in order; other lexemes have none
+-- the bounds of an interval and of a repetition are in order; other lexemes have none
 abbrev is_lexeme_ordered : Lexeme → Bool
 is_lexeme_ordered (set_of s) = true
 is_lexeme_ordered (quoted first more) = true
@@ -23,9 +23,8 @@ is_lexeme_ordered (name n) = true
 is_lexeme_ordered (interval low high) = is_ordered low high
 is_lexeme_ordered open_group = true
 is_lexeme_ordered close_group = true
-is_lexeme_ordered star = true
-is_lexeme_ordered plus = true
-is_lexeme_ordered question = true
+is_lexeme_ordered (repeat low high) = is_ordered low high
+is_lexeme_ordered empty_word = true
 is_lexeme_ordered bar = true
 
 abbrev is_option_ordered : Option Lexeme → Bool
@@ -88,9 +87,10 @@ mutual
   unit_ordered _ _ (a_string first more) h = joined_ordered (one_of (byte_set first)) more refl
   unit_ordered _ _ (a_name n) h = refl
   unit_ordered _ _ (a_group ls r d) h = alternation_ordered ls r d ((parts ls (close_group ∷ []) h).0)
-  unit_ordered _ _ (any_times ls r d) h = unit_ordered ls r d ((parts ls (star ∷ []) h).0)
-  unit_ordered _ _ (some_times ls r d) h = unit_ordered ls r d ((parts ls (plus ∷ []) h).0)
-  unit_ordered _ _ (at_most_once ls r d) h = unit_ordered ls r d ((parts ls (question ∷ []) h).0)
+  unit_ordered _ _ an_empty_word h = refl
+  unit_ordered _ _ (repeated ls r low high d) h =
+      let p = parts ls (repeat low high ∷ []) h in
+      both (is_ordered low high) (has_ordered_bounds r) ((and_parts (is_ordered low high) true p.1).0) (unit_ordered ls r d p.0)
 
 pub pattern_ordered : (text : List ℕ) (r : Reading) → IsPattern text r → IsTrue (has_ordered_bounds r.tree)
 pattern_ordered text r p = alternation_ordered p.lexemes r.tree p.alternation (lexemes_ordered p.body p.lexemes p.ending p.spelled)

@@ -14,7 +14,7 @@ use Rattle.lx_ere.specs.Brackets.{BracketPosition, opening, behind_caret, inside
 use Rattle.lx_ere.specs.Spelling.{byte_lexeme, QuotedByte, unescaped, escaped_byte, is_name_byte, IsBound, Spells, of_byte, of_escape, of_string, of_bracket, of_name, exactly, at_least, between, Lexes}
 use Rattle.lx_ere.specs.Pattern.{IsEnding, nothing, dollar, slash_newline, IsPattern}
 use Rattle.lx_ere.specs.PatternGrammar.{BehindQuotes, quote_closes, quote_escape, quote_byte, BehindMark, mark_closes, mark_byte, BehindBrackets, bracket_closes, bracket_escape, bracket_inner, bracket_byte, skip_first, is_blank, BehindPattern, at_end, past_escape, past_quotes, past_brackets, past_byte, IsPatternEnd}
-use Rattle.lx_ere.proofs.Choices.{pick_second}
+use Rattle.lx_ere.specs.ChoiceLaws.{pick_second}
 use Rattle.lx_ere.proofs.EscapeLemmas.{escape_complete}
 use Rattle.lx_ere.proofs.BracketLemmas.{alone_is, class_name, opening_no_caret}
 use Rattle.lx_ere.proofs.SpellingLemmas.{byte_other, identifier_bytes}

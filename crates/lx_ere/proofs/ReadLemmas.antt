@@ -13,8 +13,8 @@ use Rattle.lx_ere.specs.Spelling.{Lexes}
 use Rattle.lx_ere.specs.Pattern.{IsEnding, nothing, dollar, slash_newline, IsPattern, IsSubstitute}
 use Rattle.lx_ere.specs.Lexing.{lexeme_at, body_of, ending_at, Reads}
 use Rattle.lx_ere.specs.Stacks.{empty_frame, Stack, stack, step, run, finish, parse}
-use Rattle.lx_ere.proofs.Choices.{no_none, same_some, cases_of, begins_is}
-use Rattle.lx_ere.proofs.Parser.{runs, run_fails, parse_sound, parse_complete, one_tree}
+use Rattle.lx_ere.specs.ChoiceLaws.{no_none, same_some, cases_of, begins_is}
+use Rattle.lx_ere.specs.StackLaws.{runs, run_fails, parse_sound, parse_complete, one_tree}
 use Rattle.lx_ere.proofs.SpellingLemmas.{lexeme_sound, lexeme_complete, spelling_some}
 
 -- these lexemes were read of the text, the rest follows them, and they lead to this stack

@@ -7,7 +7,7 @@ use Rattle.lx_ere.specs.Brackets.{begins_with}
 use Rattle.lx_ere.specs.Pattern.{IsPattern, IsSubstitute}
 use Rattle.lx_ere.specs.Lexing.{lexeme_at, body_of, ending_at, Reads}
 use Rattle.lx_ere.specs.Stacks.{empty_frame, Stack, stack, step, finish}
-use Rattle.lx_ere.proofs.Choices.{no_none}
+use Rattle.lx_ere.specs.ChoiceLaws.{no_none}
 use Rattle.lx_ere.proofs.Deciding.{below_or_not, some_or_none}
 use Rattle.lx_ere.proofs.ReadLemmas.{Reached, Reached-start, Reached-step, Reached-end, Reached-no_end, Reached-no_step, lexeme_shorter, one_alternation, ending_complete, ending_sound, parts_of, of_parts, reads_of}
 

@@ -12,7 +12,7 @@ use Rattle.lx_ere.specs.Sequences.{Opened}
 use Rattle.lx_ere.specs.Brackets.{begins_with}
 use Rattle.lx_ere.specs.Spelling.{byte_lexeme, QuotedByte, unescaped, escaped_byte, is_name_start, is_name_byte, is_identifier, IsBound, Spells, of_byte, of_escape, of_string, of_bracket, of_name, exactly, at_least, between}
 use Rattle.lx_ere.specs.Lexing.{run_len, number_at, behind_byte, escape_at, opened_at, bracket_at, unescaped_at, quoted_byte_at, string_at, name_of, name_at, bound_of, bound_at, high_at, behind_comma_at, behind_low_at, interval_at, starts_digit, brace_at, as_set, brace_or_byte, bracket_or_other, string_or_other, lexeme_at}
-use Rattle.lx_ere.proofs.Choices.{pick_first, pick_second, cases_of, no_none, same_some, map_is, then_is, eq_other, begins_is, behind_byte_is, IsSpelledPrefix}
+use Rattle.lx_ere.specs.ChoiceLaws.{pick_first, pick_second, cases_of, no_none, same_some, map_is, then_is, eq_other, begins_is, behind_byte_is, IsSpelledPrefix}
 use Rattle.lx_ere.proofs.RunLemmas.{run_whole, take_prefix, drop_prefix, rejoin, whole_run_is}
 use Rattle.lx_ere.proofs.EscapeLemmas.{escape_complete, escape_sound, number_at_is, number_follows_mark}
 use Rattle.lx_ere.proofs.SequenceLemmas.{opened_complete, opened_sound}

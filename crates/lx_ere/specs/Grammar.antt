@@ -3,7 +3,7 @@ use Rattle.std.specs.Prelude.{ℕ, List, [], ◌∷◌, ◌++◌, Option, Some, 
 use Rattle.std.specs.Ordering.{nat_cmp}
 use Rattle.std.specs.FinSet as set
 use Rattle.lx_ere.specs.Bytes.{byte_set}
-use Rattle.lx_ere.specs.Regex.{Regex, one_of, then, or, times, named}
+use Rattle.lx_ere.specs.Regex.{Regex, nil, one_of, then, or, times, named}
 
 pub data Lexeme : Type 0 where
   -- a byte, an escape, a period or a bracket expression
@@ -12,13 +12,14 @@ pub data Lexeme : Type 0 where
   quoted : (first : ℕ) (more : List ℕ) → Lexeme
   -- a name in braces
   name : List ℕ → Lexeme
-  -- bounds in braces
+  -- bounds in braces, which repeat all of the branch before them
   interval : (low : ℕ) (high : Option ℕ) → Lexeme
+  -- `*`, `+` or `?`, and in flex bounds in braces: they repeat the last unit
+  repeat : (low : ℕ) (high : Option ℕ) → Lexeme
+  -- the empty word, which only flex spells
+  empty_word : Lexeme
   open_group : Lexeme
   close_group : Lexeme
-  star : Lexeme
-  plus : Lexeme
-  question : Lexeme
   bar : Lexeme
 
 -- the bytes one after the other, after the first expression, leaning to the left
@@ -38,12 +39,11 @@ mutual
     then_unit : (ls ms : List Lexeme) (a b : Regex) → IsBranch ls a → IsUnit ms b → IsBranch (ls ++ ms) (then a b)
     then_interval : (ls : List Lexeme) (a : Regex) (low : ℕ) (high : Option ℕ) → IsBranch ls a → IsBranch (ls ++ interval low high ∷ []) (times a low high)
 
-  -- A unit: a set, a quoted string, a name or a group, or a unit and one of `*`, `+` and `?`.
+  -- A unit: a set, a quoted string, a name, the empty word or a group, or a unit and its repetition.
   pub data IsUnit : List Lexeme → Regex → Type 0 where
     a_set : (s : set.FinSet nat_cmp) → IsUnit (set_of s ∷ []) (one_of s)
     a_string : (first : ℕ) (more : List ℕ) → IsUnit (quoted first more ∷ []) (joined (one_of (byte_set first)) more)
     a_name : (n : List ℕ) → IsUnit (name n ∷ []) (named n)
     a_group : (ls : List Lexeme) (r : Regex) → IsAlternation ls r → IsUnit (open_group ∷ ls ++ close_group ∷ []) r
-    any_times : (ls : List Lexeme) (r : Regex) → IsUnit ls r → IsUnit (ls ++ star ∷ []) (times r 0 None)
-    some_times : (ls : List Lexeme) (r : Regex) → IsUnit ls r → IsUnit (ls ++ plus ∷ []) (times r 1 None)
-    at_most_once : (ls : List Lexeme) (r : Regex) → IsUnit ls r → IsUnit (ls ++ question ∷ []) (times r 0 (Some 1))
+    an_empty_word : IsUnit (empty_word ∷ []) nil
+    repeated : (ls : List Lexeme) (r : Regex) (low : ℕ) (high : Option ℕ) → IsUnit ls r → IsUnit (ls ++ repeat low high ∷ []) (times r low high)

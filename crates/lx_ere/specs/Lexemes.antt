@@ -1,5 +1,5 @@
 -- The meaning of the code's lexemes.
-use Rattle.lx_ere.specs.Grammar.{Lexeme, set_of, quoted, name, interval, open_group, close_group, star, plus, question, bar}
+use Rattle.lx_ere.specs.Grammar.{Lexeme, set_of, quoted, name, interval, repeat, empty_word, open_group, close_group, bar}
 use Rattle.lx_ere.specs.declared.lexeme.Lexeme as code
 use Rattle.lx_ere.specs.declared.lexeme.Lexeme.TheVariants as token
 
@@ -10,7 +10,6 @@ lexeme_of (token.Name n) = name n.items
 lexeme_of (token.Interval low high) = interval low high
 lexeme_of token.OpenGroup = open_group
 lexeme_of token.CloseGroup = close_group
-lexeme_of token.Star = star
-lexeme_of token.Plus = plus
-lexeme_of token.Question = question
+lexeme_of (token.Repeat low high) = repeat low high
+lexeme_of token.EmptyWord = empty_word
 lexeme_of token.Bar = bar

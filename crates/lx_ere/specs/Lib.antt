@@ -1,6 +1,8 @@
 pub mod Bounds
 pub mod Brackets
+pub mod ByteLaws
 pub mod Bytes
+pub mod ChoiceLaws
 pub mod Equality
 pub mod EqualityLaws
 pub mod Escapes
@@ -15,7 +17,10 @@ pub mod PatternEnd
 pub mod PatternEndLaws
 pub mod PatternGrammar
 pub mod Regex
+pub mod RunLaws
+pub mod ScanLaws
 pub mod Sequences
 pub mod Spelling
+pub mod StackLaws
 pub mod Stacks
 pub mod Tokens

@@ -4,7 +4,7 @@ use Rattle.std.specs.List.{list_all}
 use Rattle.std.specs.Ordering.{nat_cmp}
 use Rattle.std.specs.FinSet as set
 use Rattle.lx_ere.specs.Bytes.{is_between, byte_set, bytes_where}
-use Rattle.lx_ere.specs.Grammar.{Lexeme, set_of, quoted, name, interval, open_group, close_group, star, plus, question, bar}
+use Rattle.lx_ere.specs.Grammar.{Lexeme, set_of, quoted, name, interval, repeat, open_group, close_group, bar}
 use Rattle.lx_ere.specs.Limits.{max_interval_bound}
 use Rattle.lx_ere.specs.Escapes.{is_digit, number_of, Escape}
 use Rattle.lx_ere.specs.Sequences.{Opened}
@@ -19,9 +19,9 @@ abbrev pub byte_lexeme : ℕ → Option Lexeme
 byte_lexeme c =
     if nat_eq c 40 then Some open_group
     else if nat_eq c 41 then Some close_group
-    else if nat_eq c 42 then Some star
-    else if nat_eq c 43 then Some plus
-    else if nat_eq c 63 then Some question
+    else if nat_eq c 42 then Some (repeat 0 None)
+    else if nat_eq c 43 then Some (repeat 1 None)
+    else if nat_eq c 63 then Some (repeat 0 (Some 1))
     else if nat_eq c 124 then Some bar
     else if nat_eq c 46 then Some (set_of (bytes_where (λ b. not (is_between 10 10 b))))
     else if is_plain c then Some (set_of (byte_set c))

@@ -1,9 +1,9 @@
--- Reading lexemes from left to right with a stack of open groups. The result is the grammar's one tree (proofs/Parser.antt).
+-- Reading lexemes from left to right with a stack of open groups. The result is the grammar's one tree (StackLaws.antt).
 use Rattle.std.specs.Prelude.{ℕ, List, [], ◌∷◌, Option, Some, None}
 use Rattle.std.specs.Option.{option_map, option_and_then}
 use Rattle.lx_ere.specs.Bytes.{byte_set}
-use Rattle.lx_ere.specs.Regex.{Regex, one_of, then, or, times, named}
-use Rattle.lx_ere.specs.Grammar.{Lexeme, set_of, quoted, name, interval, open_group, close_group, star, plus, question, bar, joined}
+use Rattle.lx_ere.specs.Regex.{Regex, nil, one_of, then, or, times, named}
+use Rattle.lx_ere.specs.Grammar.{Lexeme, set_of, quoted, name, interval, repeat, empty_word, open_group, close_group, bar, joined}
 
 -- the part of an open group that was read: the alternatives before the last bar, the branch, and its last unit
 pub record Frame : Type 0 where
@@ -59,9 +59,8 @@ step (name n) st = Some (stack (push st.top (named n)) st.below)
 step (interval low high) st = option_map (λ b. stack (frame st.top.before (Some (times b low high)) None) st.below) (whole st.top.branch st.top.unit)
 step open_group st = Some (stack empty_frame (st.top ∷ st.below))
 step close_group st = closed (total st.top) st.below
-step star st = again 0 None st
-step plus st = again 1 None st
-step question st = again 0 (Some 1) st
+step (repeat low high) st = again low high st
+step empty_word st = Some (stack (push st.top nil) st.below)
 step bar st = option_map (λ r. stack (frame (Some r) None None) st.below) (total st.top)
 
 abbrev pub run : List Lexeme → Stack → Option Stack

@@ -146,7 +146,7 @@ fn member_from(low: u8, rest: &[u8]) -> Option<(Member, &[u8])>
 }
 
 /// Returns the ranges of a class by its name, in the POSIX locale.
-fn class_ranges(name: &[u8]) -> Option<&'static [(u8, u8)]>
+pub fn class_ranges(name: &[u8]) -> Option<&'static [(u8, u8)]>
     ensures { option_map (λ r. r.now) result ≡ class_ranges name.now }
 {
     if name == b"upper".as_slice() {

@@ -19,15 +19,15 @@ fn digit_of(c: u8) -> u8
 }
 
 /// Returns true if the byte is a digit in the base.
-pub(crate) fn is_digit(base: u8, c: u8) -> bool
+pub fn is_digit(base: u8, c: u8) -> bool
     ensures { result ≡ is_digit base c }
 {
     c.is_ascii_hexdigit() && digit_of(c) < base
 }
 
 /// Returns the number of digits at the start, at most `limit`.
-#[tactic(auto, using(crate::proofs::RunLemmas::run_steps))]
-pub(crate) fn digit_run(base: u8, limit: usize, text: &[u8]) -> usize
+#[tactic(auto, using(crate::specs::RunLaws::run_steps))]
+pub fn digit_run(base: u8, limit: usize, text: &[u8]) -> usize
     ensures value { result ≡ run_len (is_digit base) limit text.now }
     ensures within { result ≤ length text.now }
 {
@@ -54,7 +54,7 @@ fn byte_of(base: u8, digits: &[u8]) -> Option<u8>
 }
 
 /// Returns the byte that the first n digits spell, with the text after them.
-pub(crate) fn number_at(base: u8, n: usize, text: &[u8]) -> Option<(u8, &[u8])>
+pub fn number_at(base: u8, n: usize, text: &[u8]) -> Option<(u8, &[u8])>
     requires low { 1 ≤ base }
     requires high { base ≤ 16 }
     requires within { n ≤ length text.now }
@@ -67,7 +67,7 @@ pub(crate) fn number_at(base: u8, n: usize, text: &[u8]) -> Option<(u8, &[u8])>
 }
 
 /// Returns the byte of a backslash with this letter.
-fn letter_byte(c: u8) -> Option<u8>
+pub fn letter_byte(c: u8) -> Option<u8>
     ensures { result ≡ letter_byte c }
 {
     match c {

@@ -21,13 +21,13 @@ struct Frame {
     before: Option<Expr>,
     /// Branch after that bar, without its last unit.
     branch: Option<Expr>,
-    /// Last unit, which `*`, `+` and `?` repeat.
+    /// Last unit, which a repetition repeats.
     unit: Option<Expr>,
 }
 
 /// The innermost open group, and those around it, the outermost first.
 #[derive(Drop)]
-pub(crate) struct Groups {
+pub struct Groups {
     top: Frame,
     below: Vec<Frame>,
 }
@@ -44,7 +44,7 @@ fn empty_frame() -> Frame
 }
 
 /// Returns the state before anything is read, without an open group.
-pub(crate) fn no_groups(alloc: Global) -> Groups
+pub fn no_groups(alloc: Global) -> Groups
     ensures { groups_of result ≡ stack empty_frame [] }
 {
     Groups {
@@ -248,11 +248,7 @@ fn next_alternative(alloc: Global, groups: Groups) -> Result<Option<Groups>, All
 }
 
 /// Takes one more lexeme. Returns `None` if it isn't allowed here.
-pub(crate) fn step(
-    alloc: Global,
-    groups: Groups,
-    lexeme: Lexeme,
-) -> Result<Option<Groups>, AllocError>
+pub fn step(alloc: Global, groups: Groups, lexeme: Lexeme) -> Result<Option<Groups>, AllocError>
     ensures { IfOk result
         (λ o. option_map groups_of o ≡ step (lexeme_of lexeme) (groups_of groups)) }
 {
@@ -266,15 +262,14 @@ pub(crate) fn step(
         Lexeme::Interval(low, high) => repeat_branch(alloc, groups, low, high),
         Lexeme::OpenGroup => Ok(Some(open_group(groups)?)),
         Lexeme::CloseGroup => close_group(alloc, groups),
-        Lexeme::Star => repeat_last(alloc, groups, 0, None),
-        Lexeme::Plus => repeat_last(alloc, groups, 1, None),
-        Lexeme::Question => repeat_last(alloc, groups, 0, Some(1)),
+        Lexeme::Repeat(low, high) => repeat_last(alloc, groups, low, high),
+        Lexeme::EmptyWord => Ok(Some(push_unit(alloc, groups, Expr::Nil)?)),
         Lexeme::Bar => next_alternative(alloc, groups),
     }
 }
 
 /// Returns the alternation that was read, if no group is open and something follows the last bar.
-pub(crate) fn finish(alloc: Global, groups: Groups) -> Result<Option<Expr>, AllocError>
+pub fn finish(alloc: Global, groups: Groups) -> Result<Option<Expr>, AllocError>
     ensures { IfOk result
         (λ o. option_map regex_of o ≡ finish (groups_of groups).top (groups_of groups).below) }
 {

@@ -22,13 +22,14 @@ pub enum Lexeme {
     Quoted(u8, Vec<u8>),
     /// A name in braces.
     Name(Vec<u8>),
-    /// Bounds in braces.
+    /// Bounds in braces, which repeat all of the branch before them.
     Interval(u8, Option<u8>),
+    /// `*`, `+` or `?`, and in flex bounds in braces: they repeat the last unit.
+    Repeat(u8, Option<u8>),
+    /// The empty word, which only flex spells.
+    EmptyWord,
     OpenGroup,
     CloseGroup,
-    Star,
-    Plus,
-    Question,
     Bar,
 }
 
@@ -65,9 +66,9 @@ fn byte_lexeme(c: u8) -> Option<Lexeme>
     match c {
         b'(' => Some(Lexeme::OpenGroup),
         b')' => Some(Lexeme::CloseGroup),
-        b'*' => Some(Lexeme::Star),
-        b'+' => Some(Lexeme::Plus),
-        b'?' => Some(Lexeme::Question),
+        b'*' => Some(Lexeme::Repeat(0, None)),
+        b'+' => Some(Lexeme::Repeat(1, None)),
+        b'?' => Some(Lexeme::Repeat(0, Some(1))),
         b'|' => Some(Lexeme::Bar),
         b'.' => Some(Lexeme::Set(ByteSet::all_but(b'\n'))),
         _ if is_plain(c) => Some(Lexeme::Set(ByteSet::of(c))),
@@ -139,7 +140,7 @@ fn name_at(alloc: Global, text: &[u8]) -> Result<Option<(Lexeme, &[u8])>, AllocE
 }
 
 /// Reads the bound of an interval, a number of at most 255.
-fn bound_at(text: &[u8]) -> Option<(u8, &[u8])>
+pub fn bound_at(text: &[u8]) -> Option<(u8, &[u8])>
     ensures { option_map (λ f. (f.0, f.1.now)) result ≡ bound_at text.now }
 {
     let n = digit_run(10, text.len(), text);
@@ -181,7 +182,7 @@ fn interval_at(text: &[u8]) -> Option<(Lexeme, &[u8])>
 }
 
 /// Returns true if the text begins with a decimal digit.
-fn starts_digit(text: &[u8]) -> bool
+pub fn starts_digit(text: &[u8]) -> bool
     ensures { result ≡ starts_digit text.now }
 {
     match text {

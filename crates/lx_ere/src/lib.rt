@@ -1,14 +1,14 @@
 //! Reads the extended regular expressions of `lex` as trees (POSIX.1-2017, XBD 9.4; XCU `lex`, "Regular Expressions in lex").
 #![tactic(auto)]
 
-mod bracket;
+pub mod bracket;
 pub mod escape;
 pub mod expr;
 pub mod extent;
 pub mod fault;
-mod groups;
+pub mod groups;
 pub mod lexeme;
-mod name;
+pub mod name;
 pub mod prefix;
 pub mod read;
 pub mod set;

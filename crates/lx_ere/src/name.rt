@@ -6,21 +6,21 @@ ghost use Rattle.lx_ere.specs.Spelling.{is_name_start, is_name_byte, is_identifi
 ghost use Rattle.lx_ere.specs.Lexing.{run_len};
 
 /// Returns true if the byte can begin an identifier.
-fn is_name_start(c: u8) -> bool
+pub fn is_name_start(c: u8) -> bool
     ensures { result ≡ is_name_start c }
 {
     c.is_ascii_alphabetic() || c == b'_'
 }
 
 /// Returns true if the byte can be in an identifier.
-fn is_name_byte(c: u8) -> bool
+pub fn is_name_byte(c: u8) -> bool
     ensures { result ≡ is_name_byte c }
 {
     is_name_start(c) || c.is_ascii_digit()
 }
 
 /// Returns the number of bytes at the start that can be in an identifier.
-#[tactic(auto, using(crate::proofs::RunLemmas::run_steps))]
+#[tactic(auto, using(crate::specs::RunLaws::run_steps))]
 pub(crate) fn name_run(text: &[u8]) -> usize
     ensures value { result ≡ run_len is_name_byte (length text.now) text.now }
     ensures within { result ≤ length text.now }

@@ -23,14 +23,14 @@ pub fn begins_with(c: u8, text: &[u8]) -> bool
 }
 
 /// Returns true if the text begins with the two bytes.
-pub(crate) fn begins_pair(c: u8, d: u8, text: &[u8]) -> bool
+pub fn begins_pair(c: u8, d: u8, text: &[u8]) -> bool
     ensures { result ≡ begins_pair c d text.now }
 {
     begins_with(c, text) && begins_with(d, skip(1, text))
 }
 
 /// Returns the text after the byte, if it begins with it.
-pub(crate) fn strip_byte(c: u8, text: &[u8]) -> Option<&[u8]>
+pub fn strip_byte(c: u8, text: &[u8]) -> Option<&[u8]>
     ensures { option_map (λ r. r.now) result ≡ behind_byte c text.now }
 {
     let (first, rest) = text.split_first()?;

@@ -55,7 +55,7 @@ impl ByteSet {
     ghost use Rattle.lx_ere.specs.Bytes.{bytes_where, byte_set, is_between, in_ranges};
 
     /// Returns the empty set.
-    pub(crate) fn empty() -> ByteSet
+    pub fn empty() -> ByteSet
         ensures { result ≡ bytes_where (λ _. false) }
     {
         ByteSet { words: [0; 4] }
@@ -71,7 +71,7 @@ impl ByteSet {
     }
 
     /// Returns the set of all bytes except one.
-    pub(crate) fn all_but(byte: u8) -> ByteSet
+    pub fn all_but(byte: u8) -> ByteSet
         ensures { result ≡ bytes_where (λ b. not (is_between byte byte b)) }
     {
         ByteSet::of(byte).complement()
@@ -85,7 +85,7 @@ impl ByteSet {
     }
 
     /// Adds a byte.
-    pub(crate) fn insert(&mut self, byte: u8)
+    pub fn insert(&mut self, byte: u8)
         ensures { (test : ℕ → Bool) → self.old ≡ bytes_where test
             → self.new ≡ bytes_where (λ b. is_between byte byte b || test b) }
     {
@@ -94,7 +94,7 @@ impl ByteSet {
     }
 
     /// Adds the bytes from the first to the last.
-    pub(crate) fn insert_range(&mut self, first: u8, last: u8)
+    pub fn insert_range(&mut self, first: u8, last: u8)
         ensures { (test : ℕ → Bool) → self.old ≡ bytes_where test
             → self.new ≡ bytes_where (λ b. is_between first last b || test b) }
     {
@@ -104,7 +104,7 @@ impl ByteSet {
     }
 
     /// Adds the bytes of the ranges, each from its first byte to its last.
-    pub(crate) fn insert_ranges(&mut self, ranges: &[(u8, u8)])
+    pub fn insert_ranges(&mut self, ranges: &[(u8, u8)])
         ensures { (test : ℕ → Bool) → self.old ≡ bytes_where test
             → self.new ≡ bytes_where (λ b. in_ranges ranges.now b || test b) }
     {
@@ -113,9 +113,31 @@ impl ByteSet {
         }
     }
 
+    // Returns the same set. Its value is known by its bytes.
+    fn duplicate(&self) -> ByteSet
+        ensures { result ≡ bytes_where (λ b. set.contains self.now b) }
+    {
+        ByteSet { words: self.words }
+    }
+
+    /// Returns the bytes of both sets.
+    pub fn union(&self, other: &ByteSet) -> ByteSet
+        ensures { result
+            ≡ bytes_where (λ b. set.contains other.now b || set.contains self.now b) }
+    {
+        let mut union = self.duplicate();
+        for byte in 0..=255 {
+            if other.has(byte) {
+                union.insert(byte);
+            }
+        }
+        union
+    }
+
     /// Returns the bytes that aren't in the set.
-    pub(crate) fn complement(&self) -> ByteSet
-        ensures { (test : ℕ → Bool) → self.now ≡ bytes_where test
+    pub fn complement(&self) -> ByteSet
+        ensures others { result ≡ bytes_where (λ b. not (set.contains self.now b)) }
+        ensures tested { (test : ℕ → Bool) → self.now ≡ bytes_where test
             → result ≡ bytes_where (λ b. not (test b)) }
     {
         let first = self.words[0];

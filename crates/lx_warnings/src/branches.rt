@@ -66,9 +66,9 @@ pub(crate) fn take_lexeme(
     lexeme: &Lexeme,
     at: Span,
 ) -> Result<(), AllocError> {
-    branches.behind_repeat = matches!(lexeme, Lexeme::Star | Lexeme::Plus | Lexeme::Question);
+    branches.behind_repeat = matches!(lexeme, Lexeme::Repeat(_, _));
     match lexeme {
-        Lexeme::Set(_) | Lexeme::Quoted(_, _) | Lexeme::Name(_) => {
+        Lexeme::Set(_) | Lexeme::Quoted(_, _) | Lexeme::Name(_) | Lexeme::EmptyWord => {
             branches.innermost = with_unit(branches.innermost, at.start);
         }
         Lexeme::Interval(_, _) => branches.innermost = with_interval(branches.innermost),
@@ -84,7 +84,7 @@ pub(crate) fn take_lexeme(
         Lexeme::Bar => {
             branches.innermost = empty_branch(branches.innermost.opened, at.end());
         }
-        Lexeme::Star | Lexeme::Plus | Lexeme::Question => {}
+        Lexeme::Repeat(_, _) => {}
     }
     Ok(())
 }

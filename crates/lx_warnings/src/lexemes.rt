@@ -112,9 +112,11 @@ pub(crate) fn look_at_lexeme(
         // it repeats a text once
         Lexeme::Interval(1, Some(1)) => Ok(()),
         Lexeme::Interval(_, _) => look_at_interval(search, allowed, branches.innermost, at),
-        Lexeme::Star | Lexeme::Plus | Lexeme::Question => {
-            look_at_repeat(search, allowed, branches, at)
-        }
-        Lexeme::Name(_) | Lexeme::OpenGroup | Lexeme::CloseGroup | Lexeme::Bar => Ok(()),
+        Lexeme::Repeat(_, _) => look_at_repeat(search, allowed, branches, at),
+        Lexeme::Name(_)
+        | Lexeme::EmptyWord
+        | Lexeme::OpenGroup
+        | Lexeme::CloseGroup
+        | Lexeme::Bar => Ok(()),
     }
 }

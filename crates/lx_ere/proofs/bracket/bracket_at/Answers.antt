@@ -8,7 +8,7 @@ use Rattle.lx_ere.proofs.bracket.bracket_at.Goals as goal
 pub returns-in-Some : goal.returns-in-Some
 returns-in-Some c =
     bracket_excluding c.args.text.now c.in-Some.set c.complement.result c.in-Some.behind.now (sym c.begins_with.ensures ∙ c.if-begins_with.true)
-    (c.in-Some.ensures ∙ ap (λ t. option_map members_set (members_at behind_caret t)) c.skip.ensures) c.complement.ensures
+    (c.in-Some.ensures ∙ ap (λ t. option_map members_set (members_at behind_caret t)) c.skip.ensures) c.complement.ensures.tested
 
 pub returns-in-None : goal.returns-in-None
 returns-in-None c =

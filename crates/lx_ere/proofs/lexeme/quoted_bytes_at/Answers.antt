@@ -1,6 +1,6 @@
 use Rattle.std.proofs.Common.{◌∙◌, sym}
 use Rattle.lx_ere.specs.Lexing.{quoted_byte_at}
-use Rattle.lx_ere.proofs.SequenceLemmas.{scan_start, scan_step, scan_end, scan_none}
+use Rattle.lx_ere.specs.ScanLaws.{scan_start, scan_step, scan_end, scan_none}
 use Rattle.lx_ere.proofs.QuoteLoop.{quoted_shorter}
 use Rattle.lx_ere.proofs.lexeme.quoted_bytes_at.Goals as goal
 

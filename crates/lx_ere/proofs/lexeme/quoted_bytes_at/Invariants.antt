@@ -1,6 +1,6 @@
 use Rattle.std.proofs.Common.{length}
 use Rattle.lx_ere.specs.Lexing.{quoted_byte_at}
-use Rattle.lx_ere.proofs.SequenceLemmas.{Scanned}
+use Rattle.lx_ere.specs.ScanLaws.{Scanned}
 use Rattle.lx_ere.proofs.lexeme.quoted_bytes_at.Given as goal
 
 abbrev pub invariant-loop-rest : goal.invariant-loop-rest

@@ -7,7 +7,7 @@ use Rattle.lx_ere.specs.declared.fault.EreFault.TheVariants.{NoReading}
 use Rattle.lx_ere.specs.Limits.{max_pattern_bytes}
 use Rattle.lx_ere.specs.Regex.{regex_of}
 use Rattle.lx_ere.specs.Lexing.{body_of, ending_at, Reads}
-use Rattle.lx_ere.proofs.Choices.{no_none}
+use Rattle.lx_ere.specs.ChoiceLaws.{no_none}
 use Rattle.lx_ere.proofs.ReadLemmas.{parts_of, of_parts, one_alternation, ending_complete, ending_sound}
 use Rattle.lx_ere.proofs.read.read_pattern.Goals as goal
 

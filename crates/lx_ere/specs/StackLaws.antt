@@ -1,10 +1,10 @@
--- Reading lexemes from left to right with a stack yields the grammar's one tree.
+-- Reading lexemes from left to right with a stack yields the grammar's one tree. All here are proofs, of which only the statements need be read.
 use Rattle.std.proofs.Common.{◌≡◌, ℕ, List, [], ◌∷◌, ◌++◌, Option, Some, None, refl, ap, subst, ◌∙◌, arith, append_assoc}
 use Rattle.std.specs.Option.{option_map, option_and_then}
 use Rattle.std.proofs.lemmas.Grind.{common_steps}
 use Rattle.lx_ere.specs.Bytes.{byte_set}
-use Rattle.lx_ere.specs.Regex.{Regex, one_of, then, or, times, named}
-use Rattle.lx_ere.specs.Grammar.{Lexeme, set_of, quoted, name, interval, open_group, close_group, star, plus, question, bar, joined, IsAlternation, branch_alone, or_branch, IsBranch, unit_alone, then_unit, then_interval, IsUnit, a_set, a_string, a_name, a_group, any_times, some_times, at_most_once}
+use Rattle.lx_ere.specs.Regex.{Regex, nil, one_of, then, or, times, named}
+use Rattle.lx_ere.specs.Grammar.{Lexeme, set_of, quoted, name, interval, repeat, empty_word, open_group, close_group, bar, joined, IsAlternation, branch_alone, or_branch, IsBranch, unit_alone, then_unit, then_interval, IsUnit, a_set, a_string, a_name, a_group, an_empty_word, repeated}
 use Rattle.lx_ere.specs.Stacks.{Frame, frame, empty_frame, whole, either, total, push, Stack, stack, again, closed, step, run, finish, parse}
 
 -- one run after the other
@@ -72,9 +72,9 @@ mutual
   unit_runs _ _ (a_group ls r d) f fs =
       let h = alternation_runs ls r d (f ∷ fs) in
       runs ls (close_group ∷ []) (stack empty_frame (f ∷ fs)) (stack h.f (f ∷ fs)) (stack (push f r) fs) h.goes (rw h.gives refl)
-  unit_runs _ _ (any_times ls x d) f fs = runs ls (star ∷ []) (stack f fs) (stack (push f x) fs) (stack (push f (times x 0 None)) fs) (unit_runs ls x d f fs) refl
-  unit_runs _ _ (some_times ls x d) f fs = runs ls (plus ∷ []) (stack f fs) (stack (push f x) fs) (stack (push f (times x 1 None)) fs) (unit_runs ls x d f fs) refl
-  unit_runs _ _ (at_most_once ls x d) f fs = runs ls (question ∷ []) (stack f fs) (stack (push f x) fs) (stack (push f (times x 0 (Some 1))) fs) (unit_runs ls x d f fs) refl
+  unit_runs _ _ an_empty_word f fs = refl
+  unit_runs _ _ (repeated ls x low high d) f fs =
+      runs ls (repeat low high ∷ []) (stack f fs) (stack (push f x) fs) (stack (push f (times x low high)) fs) (unit_runs ls x d f fs) refl
 
 pub parse_complete : (ls : List Lexeme) (r : Regex) → IsAlternation ls r → parse ls ≡ Some r
 parse_complete ls r d = let h = alternation_runs ls r d [] in rw h.goes h.gives
@@ -240,9 +240,9 @@ step_keeps (name n) st t ls s e = let h : stack (push (st.top) (named n)) (st.be
 step_keeps (interval low high) st t ls s e = interval_keeps (st.top.before) (st.top.branch) (st.top.unit) (st.below) ls low high t s e
 step_keeps open_group st t ls s e = let h : stack empty_frame (st.top ∷ st.below) ≡ t = cc in rw (← h) (open_keeps (st.top) (st.below) ls s)
 step_keeps close_group st t ls s e = close_keeps (st.top.before) (st.top.branch) (st.top.unit) (st.below) ls t s e
-step_keeps star st t ls s e = again_keeps (st.top.before) (st.top.branch) (st.top.unit) (st.below) ls star 0 None t any_times s e
-step_keeps plus st t ls s e = again_keeps (st.top.before) (st.top.branch) (st.top.unit) (st.below) ls plus 1 None t some_times s e
-step_keeps question st t ls s e = again_keeps (st.top.before) (st.top.branch) (st.top.unit) (st.below) ls question 0 (Some 1) t at_most_once s e
+step_keeps (repeat low high) st t ls s e =
+    again_keeps (st.top.before) (st.top.branch) (st.top.unit) (st.below) ls (repeat low high) low high t (λ ms r. repeated ms r low high) s e
+step_keeps empty_word st t ls s e = let h : stack (push (st.top) nil) (st.below) ≡ t = cc in rw (← h) (stack_push (st.top) (st.below) ls (empty_word ∷ []) nil s an_empty_word)
 step_keeps bar st t ls s e = bar_keeps (st.top.before) (st.top.branch) (st.top.unit) (st.below) ls t s e
 
 pub run_keeps : (ms : List Lexeme) (st t : Stack) (ls : List Lexeme) → IsStack (st.top) (st.below) ls → run ms st ≡ Some t → IsStack (t.top) (t.below) (ls ++ ms)

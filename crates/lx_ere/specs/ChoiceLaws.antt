@@ -1,4 +1,4 @@
--- The origins of a result of `if`, `option_map` or `option_and_then`.
+-- The origins of a result of `if`, `option_map` or `option_and_then`. All here are proofs, of which only the statements need be read.
 use Rattle.std.proofs.Common.{◌≡◌, ℕ, ◌⊎◌, inl, inr, Bool, true, false, nat_eq, cond, List, [], ◌∷◌, ◌++◌, drop, Option, Some, None, refl, ap, arith}
 use Rattle.std.specs.Option.{option_map, option_and_then}
 use Rattle.std.proofs.lemmas.Bool.{eqb-true, false≢true}
