@@ -1,7 +1,7 @@
 use Rattle.std.proofs.Common.{◌≡◌, arith}
 use Rattle.lx_minimize.specs.Completion.{total}
 use Rattle.lx_minimize.proofs.Containing.{all_contain_preimage}
-use Rattle.lx_minimize.proofs.split.split_slowly.Goals as goal
+use Rattle.lx_minimize.proofs.split.split_at.Goals as goal
 
 pub split-requires-clause-sources : goal.split-requires-clause-sources
 split-requires-clause-sources c =
