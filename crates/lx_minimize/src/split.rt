@@ -138,7 +138,16 @@ fn split_at(
     let members = members_of(alloc, &p.block_of, into)?;
     let from = p.block_of[s] as usize;
     let sources = all_states(alloc, m.labels.len())?;
-    let _split = split(alloc, m, p, &members.inside, sources.as_slice(), from, class, true)?;
+    let _split = split(
+        alloc,
+        m,
+        p,
+        &members.inside,
+        sources.as_slice(),
+        from,
+        class,
+        true,
+    )?;
     Ok(())
 }
 
