@@ -103,12 +103,7 @@ pub fn push_kind(line: &mut Vec<u8>, plan: &Plan, item: &Item) -> Result<(), All
 }
 
 // Appends the fields of an item's line before its text to the block. If an allocation fails, a part of them was appended.
-fn push_fields(
-    block: &mut Vec<u8>,
-    plan: &Plan,
-    file: u32,
-    item: &Item,
-) -> Result<(), AllocError>
+fn push_fields(block: &mut Vec<u8>, plan: &Plan, file: u32, item: &Item) -> Result<(), AllocError>
     requires { NamesKindAmong (kinds_of plan.now) item.now }
     ensures { OnOk result (block.new.items
         ≡ block.old.items ++ (decimal file ++ codes " " ++ class_text item.now ++ codes " "
