@@ -20,10 +20,7 @@ pub use escape::{Escape, NameEscape, TextEscape};
 pub use fields::{Digits, Numbers, fits, kind_of, numbers_in, numbers_of, place_small};
 pub use lines::{PlanDraft, push_each, push_lines};
 pub use place::{place_4, place_16, place_all, place_byte};
-pub use plain::{
-    PlainStyle, place_kind, push_cut_line, push_field, push_fields, push_kind, push_line,
-    push_number, push_text,
-};
+pub use plain::{PlainStyle, place_kind, push_field, push_kind, push_line, push_number, push_text};
 pub use prefixes::Prefixes;
 pub use shared::place_number;
 pub use style::{LinePrefix, LineStyle};

@@ -102,13 +102,8 @@ pub fn push_kind(line: &mut Vec<u8>, plan: &Plan, item: &Item) -> Result<(), All
     }
 }
 
-/// Appends the fields of an item's line before its text to the block. If an allocation fails, a part of them was appended.
-pub fn push_fields(
-    block: &mut Vec<u8>,
-    plan: &Plan,
-    file: u32,
-    item: &Item,
-) -> Result<(), AllocError>
+// Appends the fields of an item's line before its text to the block. If an allocation fails, a part of them was appended.
+fn push_fields(block: &mut Vec<u8>, plan: &Plan, file: u32, item: &Item) -> Result<(), AllocError>
     requires { NamesKindAmong (kinds_of plan.now) item.now }
     ensures { OnOk result (block.new.items
         ≡ block.old.items ++ (decimal file ++ codes " " ++ class_text item.now ++ codes " "
@@ -147,8 +142,8 @@ pub fn push_line<L: LineStyle>(
     block.extend_from_slice(b"\n")
 }
 
-/// Appends the line of a file whose reading failed to the block.
-pub fn push_cut_line(block: &mut Vec<u8>, file: u32) -> Result<(), AllocError>
+// Appends the line of a file whose reading failed to the block.
+fn push_cut_line(block: &mut Vec<u8>, file: u32) -> Result<(), AllocError>
     ensures { OnOk result (block.new.items ≡ block.old.items ++ cut_line file) }
 {
     push_number(block, u64::from(file))?;

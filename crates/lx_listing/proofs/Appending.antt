@@ -1,18 +1,13 @@
-use Rattle.std.proofs.Common.{ℕ, ◌≡◌, ◌+◌, ◌-◌, List, [], ◌++◌, length, take, drop, Option, Some, None, sym, ◌∙◌, subst, arith, append-nil}
+use Rattle.std.proofs.Common.{ℕ, ◌+◌, List, [], ◌++◌, take, drop, Option, Some, None, sym, ◌∙◌, subst, append-nil}
 use Rattle.std.specs.Io.KnownBytes.{Appends, Keeps}
 use Rattle.std.proofs.Math.Seq.{take-add}
-use Rattle.std.proofs.lemmas.List.{take_all, take-append-drop}
-use Rattle.std.proofs.Math.ListN.{length-drop}
+use Rattle.std.proofs.lemmas.List.{take-append-drop}
 use Rattle.lx_listing.specs.Appending.{AppendsPrefix}
 use Rattle.lx_listing.specs.AppendingLaws.{appends_both, prefix_behind, prefix_then, prefix_before}
 
 -- the first bytes of a text, and then further ones
 pub appends_more : (a b c : Option (List ℕ)) (bs : List ℕ) (d n : ℕ) → Appends a b (take d bs) → Appends b c (take n (drop d bs)) → Appends a c (take (d + n) bs)
 appends_more a b c bs d n h k = subst (Appends a c) (sym (take-add d n bs)) (appends_both a b c (take d bs) (take n (drop d bs)) h k)
-
--- the rest of the bytes, as it is written
-pub rest_is : (bs : List ℕ) (d : ℕ) → take (length bs - d) (drop d bs) ≡ drop d bs
-rest_is bs d = take_all (length bs - d) (drop d bs) (omega (arith, length-drop d bs))
 
 -- bytes that stay as they were grow by nothing
 pub kept_appends : (a b : Option (List ℕ)) → Keeps a b → Appends a b []
@@ -27,14 +22,6 @@ appends_prefix a b c xs ys h k = (xs ++ k.0, prefix_behind xs k.0 ys k.1, append
 -- a prefix of some bytes is one of these and further ones
 pub prefix_more : (a b : Option (List ℕ)) (xs ys : List ℕ) → AppendsPrefix a b xs → AppendsPrefix a b (xs ++ ys)
 prefix_more a b xs ys h = (h.0, prefix_then h.0 xs (xs ++ ys) h.1 (prefix_before xs ys), h.2)
-
--- a prefix by number
-pub prefix_taken : (a b : Option (List ℕ)) (bs : List ℕ) (n : ℕ) → Appends a b (take n bs) → AppendsPrefix a b bs
-prefix_taken a b bs n h = (take n bs, (drop n bs, take-append-drop n bs), h)
-
--- the first bytes of a text, and then none
-pub kept_prefix : (a b c : Option (List ℕ)) (bs : List ℕ) (d : ℕ) → Appends a b (take d bs) → Keeps b c → AppendsPrefix a c bs
-kept_prefix a b c bs d h k = prefix_taken a c bs d (subst (λ (front : List ℕ). Appends a c front) (append-nil (take d bs)) (appends_both a b c (take d bs) [] h (kept_appends b c k)))
 
 -- the first bytes of a text, and then a prefix of some further ones
 pub prefix_part : (a b c : Option (List ℕ)) (bs : List ℕ) (d n : ℕ) → Appends a b (take d bs) → AppendsPrefix b c (take n (drop d bs)) → AppendsPrefix a c bs

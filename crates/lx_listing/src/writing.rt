@@ -5,6 +5,7 @@ ghost use Rattle.std.specs.Io.KnownBytes.{Appends};
 ghost use Rattle.lx_listing.specs.Appending.{AppendsPrefix};
 
 use lx_piece::ReaderFault;
+use lx_tables::write_bytes;
 use std::io::Write;
 
 /// The way to write a block of lines.
@@ -16,22 +17,16 @@ pub enum LineWrites {
     Whole,
 }
 
-// Writes bytes in one write, or in further ones for what the device didn't accept. A write of 0 bytes or an error is a fault. After it, a prefix was
-// written.
-fn write_bytes<W: Write>(out: &mut W, bytes: &[u8]) -> Result<(), ReaderFault>
+// Writes bytes. A write of 0 bytes or an error is a fault. After it, a prefix was written.
+fn write_whole<W: Write>(out: &mut W, bytes: &[u8]) -> Result<(), ReaderFault>
     ensures ok { OnOk result (Appends (W.contents out.old) (W.contents out.new) bytes.now) }
     ensures err { OnErr result (AppendsPrefix (W.contents out.old) (W.contents out.new) bytes.now) }
     ensures device { IfErr result (λ fault. fault ≡ ReaderFault.Device) }
 {
-    let mut done = 0;
-    while done < bytes.len() {
-        match out.write(&bytes[done..]) {
-            Ok(0) => return Err(ReaderFault::Device),
-            Ok(n) => done += n,
-            Err(_) => return Err(ReaderFault::Device),
-        }
+    match write_bytes(out, bytes) {
+        Ok(()) => Ok(()),
+        Err(_) => Err(ReaderFault::Device),
     }
-    Ok(())
 }
 
 // Returns the position after the line that begins here.
@@ -56,7 +51,7 @@ fn write_each<W: Write>(out: &mut W, block: &[u8]) -> Result<(), ReaderFault>
     let mut done = 0;
     while done < block.len() {
         let end = line_end(block, done);
-        write_bytes(out, &block[done..end])?;
+        write_whole(out, &block[done..end])?;
         done = end;
     }
     Ok(())
@@ -74,6 +69,6 @@ pub fn write_block<W: Write>(
 {
     match writes {
         LineWrites::EachLine => write_each(out, block),
-        LineWrites::Whole => write_bytes(out, block),
+        LineWrites::Whole => write_whole(out, block),
     }
 }

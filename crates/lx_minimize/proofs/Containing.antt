@@ -66,12 +66,14 @@ sources_more m members old new listed i class are adds own = record {
 pub contain_preimage : (m : Complete) (inside : List Bool) (members states : List ℕ) (class : ℕ) → IsComplete m → class < m.width → AreSourcesOf m members class states →
     ((s : ℕ) → s < total m → flag inside s ≡ true → Contains members s) → ContainPreimage m inside class states
 contain_preimage m inside members states class complete narrow are within = record {
+  narrow = narrow;
   below = are.below;
   all = λ s l target. are.all s l (within (step_of m s class) (complete.closed s class l narrow) target);
 }
 
-pub all_contain_preimage : (m : Complete) (inside : List Bool) (states : List ℕ) (class count : ℕ) → count ≡ total m → AreStatesBelow count states → ContainPreimage m inside class states
-all_contain_preimage m inside states class count e are = record {
+pub all_contain_preimage : (m : Complete) (inside : List Bool) (states : List ℕ) (class count : ℕ) → class < m.width → count ≡ total m → AreStatesBelow count states → ContainPreimage m inside class states
+all_contain_preimage m inside states class count narrow e are = record {
+  narrow = narrow;
   below = λ s h. let l = are.below s h in omega arith;
   all = λ s l target. are.all s (omega arith);
 }

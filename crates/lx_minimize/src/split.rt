@@ -77,7 +77,6 @@ pub(crate) fn split(
     requires splitter { IsSplitter m.now inside.now }
     requires sources { ContainPreimage m.now inside.now class sources.now }
     requires from { from < block_count p.old }
-    requires class { class < m.now.width }
     ensures sound { OnOk result (IsSound m.now p.new) }
     ensures count { IfOk result
         (λ moved. IfSome moved (λ _. block_count p.new ≡ block_count p.old + 1)) }
@@ -118,34 +117,6 @@ pub(crate) fn split(
     Ok(Some(moved))
 }
 
-// Does the same as `split` without knowing the states that step into the set. Tries all of them.
-fn split_slowly(
-    alloc: Global,
-    m: &Complete,
-    p: &mut Partition,
-    inside: &[bool],
-    from: usize,
-    class: usize,
-    wanted: bool,
-) -> Result<Option<StateRange>, AllocError>
-    requires complete { IsComplete m.now }
-    requires sound { IsSound m.now p.old }
-    requires splitter { IsSplitter m.now inside.now }
-    requires from { from < block_count p.old }
-    requires class { class < m.now.width }
-    ensures sound { OnOk result (IsSound m.now p.new) }
-    ensures count { IfOk result
-        (λ moved. IfSome moved (λ _. block_count p.new ≡ block_count p.old + 1)) }
-    ensures divided { IfOk result (λ moved. IfSome moved (HasNewBlock p.old p.new)) }
-    ensures unsplit { IfOk result
-        (λ moved. moved ≡ None → IsStableBlock m.now p.old.block_of.items inside.now from class) }
-    ensures same { IfOk result (λ moved. moved ≡ None → p.new ≡ p.old) }
-{
-    let states = all_states(alloc, m.labels.len())?;
-    let sources = states.as_slice();
-    split(alloc, m, p, inside, sources, from, class, wanted)
-}
-
 /// Splits the block of a state that steps to another block than the block's representative.
 fn split_at(
     alloc: Global,
@@ -166,7 +137,17 @@ fn split_at(
     let into = p.block_of[step(m, s, class)];
     let members = members_of(alloc, &p.block_of, into)?;
     let from = p.block_of[s] as usize;
-    let _split = split_slowly(alloc, m, p, &members.inside, from, class, true)?;
+    let sources = all_states(alloc, m.labels.len())?;
+    let _split = split(
+        alloc,
+        m,
+        p,
+        &members.inside,
+        sources.as_slice(),
+        from,
+        class,
+        true,
+    )?;
     Ok(())
 }
 

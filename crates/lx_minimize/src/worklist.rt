@@ -155,7 +155,6 @@ fn split_touched(
     requires sound { IsSound m.now p.old }
     requires splitter { IsSplitter m.now inside.now }
     requires sources { ContainPreimage m.now inside.now class sources.now }
-    requires class { class < m.now.width }
     requires bounds { AreBounds p.old worklist.old.bounds }
     ensures sound { OnOk result (IsSound m.now p.new) }
     ensures splits_left { OnOk result
@@ -195,7 +194,6 @@ fn split_by(
     requires sound { IsSound m.now p.old }
     requires splitter { IsSplitter m.now inside.now }
     requires sources { ContainPreimage m.now inside.now class sources.now }
-    requires class { class < m.now.width }
     requires bounds { AreBounds p.old worklist.old.bounds }
     ensures sound { OnOk result (IsSound m.now p.new) }
     ensures splits_left { OnOk result

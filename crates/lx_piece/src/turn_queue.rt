@@ -1,13 +1,12 @@
 //! Makes the pieces of all files wait for their turn, and passes them on in the plan's order.
 
-ghost use Rattle.std.specs.Prelude.{◌≡◌, ◌+◌, ◌<◌, [], Err, OnOk, OnErr, IfOk, IfErr, replicate, true, false};
+ghost use Rattle.std.specs.Prelude.{◌≡◌, ◌<◌, [], OnOk, OnErr, IfOk, IfErr, replicate, false};
 ghost use Rattle.lx_piece.specs.Pieces.{top_number};
 ghost use Rattle.lx_piece.specs.Plans.{IsPlan, files_of};
 ghost use Rattle.lx_piece.specs.NextPiece.{IsNextPieceBy};
 ghost use Rattle.lx_piece.specs.Turns.{first_turn};
 ghost use Rattle.lx_piece.specs.Waiting.{counted, queued};
-ghost use Rattle.lx_piece.specs.Passing.{PassesOn};
-ghost use Rattle.lx_piece.specs.declared.reader.ReaderFault.{ReaderFault};
+ghost use Rattle.lx_piece.specs.Passing.{CountsFaults, PassesOn, StaysFailed};
 
 use crate::{Held, Maker, Piece, Plan, ReaderFault, Taker, place};
 use std::alloc::{AllocError, AllocFailed, Global};
@@ -102,15 +101,8 @@ impl<M: Maker, T: Taker<M>> TurnQueue<M, T> {
         ensures follows { PassesOn T.plan T.turn T.follows T.fails self.old self.new }
         ensures ok { OnOk result (self.new.counts ≡ counted self.old.counts piece.file) }
         ensures err { OnErr result (self.new.counts ≡ self.old.counts) }
-        ensures device { result ≡ Err ReaderFault.Device → self.new.faults ≡ self.old.faults + 1 }
-        ensures memory { result ≡ Err ReaderFault.Memory → self.new.faults ≡ self.old.faults }
-        ensures no_fault { OnOk result (self.new.faults ≡ self.old.faults) }
-        ensures failed { OnErr result (self.new.failed ≡ true) }
-        ensures working { OnOk result (self.new.failed ≡ false) }
-        ensures stopped { self.old.failed ≡ true → result ≡ Err ReaderFault.Device }
-        // The taker's effect if it failed.
-        ensures fell { self.old.failed ≡ false
-            → IfErr result (λ fault. T.fails self.old.taker fault self.new.taker) }
+        ensures faults { CountsFaults result self.old.faults self.new.faults }
+        ensures stays { StaysFailed T.fails result self.old self.new }
     {
         if self.failed {
             self.faults += 1;

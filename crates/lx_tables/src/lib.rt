@@ -33,4 +33,5 @@ pub use crate::raw::{RawFront, RawTables};
 pub use crate::table_rule::TableRule;
 pub use crate::tables::Tables;
 pub use crate::version::Version;
+pub use crate::writing::write_bytes;
 pub use lx_automaton::State;

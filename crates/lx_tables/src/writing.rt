@@ -8,8 +8,12 @@ ghost use Rattle.lx_tables.specs.Texts.{number, count_line};
 use itoa::Buffer;
 use std::io::{self, Write};
 
-/// Writes bytes in one write, or in further ones for what the device didn't accept.
-pub(crate) fn write_bytes<W: Write>(out: &mut W, bytes: &[u8]) -> Result<(), io::Error>
+/// Writes bytes in one write, or in further ones for what the device didn't accept. After an error, a prefix was written.
+///
+/// # Errors
+///
+/// `WriteZero` if the device accepts no byte. The device's own error.
+pub fn write_bytes<W: Write>(out: &mut W, bytes: &[u8]) -> Result<(), io::Error>
     ensures ok { OnOk result (Wrote (W.contents out.old) (W.contents out.new) bytes.now) }
     ensures err { OnErr result (WrotePrefix (W.contents out.old) (W.contents out.new) bytes.now) }
 {

@@ -49,39 +49,6 @@ fn add_set(alloc: Global, table: &mut SetTable, set: PositionSet) -> Result<(), 
     Ok(())
 }
 
-// Adds a set that isn't in the table, with the next number.
-fn add_new(
-    alloc: Global,
-    table: &mut SetTable,
-    set: PositionSet,
-    limit: usize,
-) -> Result<usize, BuildFault>
-    requires absent { get same table.old.numbers set ≡ None }
-    requires numbering { IsNumbering table.old.sets.items table.old.numbers }
-    requires room { length table.old.sets.items ≤ limit }
-    ensures numbering { OnOk result (IsNumbering table.new.sets.items table.new.numbers) }
-    ensures at { IfOk result (λ n. n < length table.new.sets.items) }
-    ensures found { IfOk result (λ n. set_of table.new.sets.items n ≡ set.items) }
-    ensures extended_by { OnOk result
-        (IsExtendedBy table.old.sets.items table.new.sets.items set.items) }
-    ensures room { OnOk result (length table.new.sets.items ≤ limit) }
-    ensures fresh { OnOk result (length table.new.sets.items ≡ length table.old.sets.items
-        ⊎ ((i : ℕ) → i < length table.old.sets.items
-        → set_of table.old.sets.items i ≢ set.items)) }
-    ensures many { IfErr result (λ e.
-        e ≡ BuildFault.TooManySets
-        → (length table.old.sets.items ≡ limit) × ((i : ℕ) → i < length table.old.sets.items
-        → set_of table.old.sets.items i ≢ set.items)) }
-    ensures few { IfErr result (λ e. e ≢ BuildFault.TooManyPositions) }
-{
-    let number = table.sets.len();
-    if number == limit {
-        return Err(BuildFault::TooManySets);
-    }
-    add_set(alloc, table, set)?;
-    Ok(number)
-}
-
 /// Returns the number of a set in the table. Adds it if it isn't there. The table has at most `limit` sets.
 pub(crate) fn number_of(
     alloc: Global,
@@ -106,8 +73,13 @@ pub(crate) fn number_of(
         → set_of table.old.sets.items i ≢ set.items)) }
     ensures few { IfErr result (λ e. e ≢ BuildFault.TooManyPositions) }
 {
-    match known_number(table, &set) {
-        Some(number) => Ok(number),
-        None => add_new(alloc, table, set, limit),
+    if let Some(number) = known_number(table, &set) {
+        return Ok(number);
     }
+    let number = table.sets.len();
+    if number == limit {
+        return Err(BuildFault::TooManySets);
+    }
+    add_set(alloc, table, set)?;
+    Ok(number)
 }

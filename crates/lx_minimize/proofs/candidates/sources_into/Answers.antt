@@ -12,4 +12,4 @@ pub returns : goal.returns
 returns c =
     let held = c.args.m.now.labels.ok.0 in
     let count : c.len.result ≡ total c.args.m.now = omega (arith, c.len.ensures) in
-    IfOk-weaker c.all_states.result _ _ (λ states are. all_contain_preimage c.args.m.now c.args.inside.now states.items c.args.class c.len.result count are) c.all_states.ensures
+    IfOk-weaker c.all_states.result _ _ (λ states are. all_contain_preimage c.args.m.now c.args.inside.now states.items c.args.class c.len.result c.requires.class count are) c.all_states.ensures

@@ -21,7 +21,7 @@ divide-requires-clause-small c = let s = c.requires.complete.small in omega (ari
 pub returns-clause-sound : goal.returns-clause-sound
 returns-clause-sound c =
     sound_after c.args.m.now c.args.p.now c.divide.new.p c.args.inside.now c.args.from c.args.class c.side_of-wanted.result c.in-Some.remaining_state c.in_ok-moved_states.moved_states.items
-    c.requires.complete c.requires.sound c.requires.splitter c.requires.from c.requires.class c.side_of-wanted.ensures
+    c.requires.complete c.requires.sound c.requires.splitter c.requires.from c.requires.sources.narrow c.side_of-wanted.ensures
     (rw c.as_slice-blocks.ensures.value at c.in_ok-moved_states.ensures) (let long = c.in_ok-moved_states.moved_states.ok.0 in let e = c.is_empty.ensures in let f = c.if-is_empty.false in grind (arith, common_steps)) c.in-Some.ensures.state (rw c.as_slice-blocks.ensures.value at c.in-Some.ensures.remaining_state)
     (rw c.deref-2.ensures.value at c.in_ok-divide.ensures.representatives) (rw c.deref-2.ensures.value at c.in_ok-divide.ensures.blocks)
 
