@@ -1,6 +1,6 @@
 -- lx reads the rules of the flex file.
 use Rattle.std.specs.Prelude.{◌≡◌, ℕ, ◌⊎◌, List, [], ◌∷◌, Option}
-use Rattle.lx_flex_pattern.specs.Tree.{Tree, Pattern}
+use Rattle.lx_ere.specs.Regex.{Regex, Reading}
 use Rattle.lx_flex_pattern.specs.Translation.{IsReadAs, HaveSameTexts}
 use Rattle.lx_rules.specs.Plain.{PlainSpec, PlainRule, PlainDefinition, StartCondition}
 use Rattle.lx_spec.specs.Whole.{IsRead}
@@ -8,12 +8,12 @@ use Rattle.lx_spec.specs.Whole.{IsRead}
 -- a rule of flex: the numbers of its conditions, in ascending order, and its pattern
 pub record FlexRule : Type 0 where
   pub conditions : Option (List ℕ)
-  pub pattern : Pattern
+  pub pattern : Reading
 
 -- a definition of flex, by its name in lx
 pub record FlexDefinition : Type 0 where
   pub name : List ℕ
-  pub tree : Tree
+  pub tree : Regex
 
 -- The rule of lx is active in the conditions of the flex rule, with the same anchors and the same texts.
 pub record IsRule (rule : FlexRule) (read : PlainRule) : Type 0 where

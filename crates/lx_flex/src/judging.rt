@@ -3,7 +3,8 @@
 use crate::actions::FlexAction;
 use crate::report::{ImportCause, ReadFault, Reports};
 use crate::rules::FlexRule;
-use lx_flex_pattern::{FlexPattern, Reading, Tree, translate};
+use lx_ere::{ByteSet, Expr, Pattern};
+use lx_flex_pattern::{PatternReading, translate};
 use std::alloc::{AllocError, Global};
 
 /// The conditions in which a rule is active, and its pattern.
@@ -14,7 +15,7 @@ pub struct ImportedRule {
     /// Numbers of its conditions, in ascending order. `None` if it names none.
     pub conditions: Option<Vec<u16>>,
     /// Pattern of the rule.
-    pub pattern: FlexPattern,
+    pub pattern: Pattern,
 }
 
 /// A rule with its text in lx.
@@ -56,11 +57,7 @@ pub(crate) fn without_eof_rules(
                     other => other,
                 };
                 carried = None;
-                let Reading {
-                    pattern,
-                    trailing,
-                    length: _,
-                } = reading;
+                let (pattern, trailing) = with_newline(reading);
                 let rule = ImportedRule {
                     line,
                     conditions,
@@ -74,19 +71,49 @@ pub(crate) fn without_eof_rules(
     Ok(kept)
 }
 
+/// Returns true if the only text of the expression is a newline.
+fn is_newline(expr: &Expr) -> bool {
+    match expr {
+        Expr::Set(set) => set == &ByteSet::of(b'\n'),
+        _ => false,
+    }
+}
+
+/// Returns the pattern, with a `$` for a newline as the trailing context. The flag is true if there is another trailing context.
+fn with_newline(reading: PatternReading) -> (Pattern, bool) {
+    let PatternReading {
+        pattern,
+        trailing,
+        length: _length,
+    } = reading;
+    let Some(trailing) = trailing else {
+        return (pattern, false);
+    };
+    if !is_newline(&trailing) {
+        return (pattern, true);
+    }
+    let Pattern {
+        line_begin,
+        line_end: _line_end,
+        expr,
+    } = pattern;
+    let pattern = Pattern {
+        line_begin,
+        line_end: true,
+        expr,
+    };
+    (pattern, false)
+}
+
 /// Returns true if the tree matches the empty word. A name isn't known, and counts as false.
-fn matches_empty(tree: &Tree) -> bool {
+fn matches_empty(tree: &Expr) -> bool {
     match tree {
-        Tree::Empty => true,
-        Tree::OneOf {
-            excluded: _,
-            fold: _,
-            members: _,
-        } => false,
-        Tree::Then(first, second) => matches_empty(first) && matches_empty(second),
-        Tree::Or(this, that) => matches_empty(this) || matches_empty(that),
-        Tree::Times { body, low, high: _ } => *low == 0 || matches_empty(body),
-        Tree::Name(_) => false,
+        Expr::Nil => true,
+        Expr::Set(_) => false,
+        Expr::Then(first, second) => matches_empty(first) && matches_empty(second),
+        Expr::Or(this, that) => matches_empty(this) || matches_empty(that),
+        Expr::Times { body, low, high: _ } => *low == 0 || matches_empty(body),
+        Expr::Name(_) => false,
     }
 }
 
@@ -103,7 +130,7 @@ fn judge_pattern(
     if rule.pattern.line_end && behind_bar {
         reports.add_loss(rule.line, ImportCause::DollarBehindBar)?;
     }
-    if rule.pattern.line_end && matches_empty(&rule.pattern.tree) {
+    if rule.pattern.line_end && matches_empty(&rule.pattern.expr) {
         reports.add_loss(rule.line, ImportCause::EmptyBeforeDollar)?;
     }
     Ok(())

@@ -4,7 +4,8 @@ use crate::conditions::without_hyphens;
 use crate::cursor::front;
 use crate::definitions::{Declared, FlexDefinition};
 use crate::report::ReadFault;
-use lx_flex_pattern::{NamedPatterns, Tree, read_pattern, translate_substitute};
+use lx_ere::Expr;
+use lx_flex_pattern::{NamedPatterns, read_pattern, translate_substitute};
 use std::alloc::{AllocError, Global};
 
 /// Greatest number of passes over the definitions, which is the greatest depth of names in lx.
@@ -16,7 +17,7 @@ pub struct ImportedDefinition {
     /// Name of the definition in lx.
     pub name: Vec<u8>,
     /// Tree of its substitute.
-    pub tree: Tree,
+    pub tree: Expr,
     /// Text of its substitute in lx.
     pub text: Vec<u8>,
 }
@@ -116,7 +117,7 @@ fn import_definition(
     declared: &Declared,
     names: &NamedPatterns,
     definition: &FlexDefinition,
-) -> Result<Option<(Tree, Vec<u8>)>, ReadFault> {
+) -> Result<Option<(Expr, Vec<u8>)>, ReadFault> {
     let text = definition.text.as_slice();
     if is_anchored(text) || declared.options.bare_names {
         return Ok(None);
@@ -126,12 +127,12 @@ fn import_definition(
         Err(lx_flex_pattern::PatternFault::Memory) => return Err(ReadFault::Memory),
         Err(_) => return Ok(None),
     };
-    let whole = reading.length == text.len() && !reading.trailing;
+    let whole = reading.length == text.len() && reading.trailing.is_none();
     if !whole || reading.pattern.line_begin || reading.pattern.line_end {
         return Ok(None);
     }
-    match translate_substitute(alloc, &reading.pattern.tree) {
-        Ok(printed) => Ok(Some((reading.pattern.tree, printed))),
+    match translate_substitute(alloc, &reading.pattern.expr) {
+        Ok(printed) => Ok(Some((reading.pattern.expr, printed))),
         Err(lx_flex_pattern::PatternFault::Memory) => Err(ReadFault::Memory),
         Err(_) => Ok(None),
     }

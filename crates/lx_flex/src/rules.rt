@@ -3,10 +3,11 @@
 use crate::actions::{FlexAction, action_of, problems_before_rules};
 use crate::c_code::{lines_before, skip_block, strip_mark, take_action, take_block, tidy};
 use crate::conditions::{name_at, place_of, union};
-use crate::cursor::{TextCursor, between, blank_run, is_blank, skip};
+use crate::cursor::{TextCursor, between, blank_run, front, is_blank, skip};
 use crate::definitions::Declared;
 use crate::report::{ImportCause, ReadFault, Reports, stop};
-use lx_flex_pattern::{NamedPatterns, Reading, read_pattern};
+use lx_flex_pattern::reading::MAX_FLEX_PATTERN_BYTES;
+use lx_flex_pattern::{NamedPatterns, PatternFault, PatternReading, read_pattern};
 use lx_rules::limits::MAX_RULES;
 use std::alloc::{AllocError, Global};
 
@@ -20,7 +21,7 @@ pub(crate) struct FlexRule {
     /// Conditions that it names, with those of the scopes around it. `None` if there are none.
     pub(crate) conditions: Option<Vec<u16>>,
     /// Pattern of the rule. `None` for `<<EOF>>`.
-    pub(crate) reading: Option<Reading>,
+    pub(crate) reading: Option<PatternReading>,
     pub(crate) action: FlexAction,
 }
 
@@ -170,6 +171,21 @@ fn is_behind_pattern(cursor: &TextCursor) -> bool {
     }
 }
 
+/// Reads the pattern at the start of a text that may go on for long.
+fn pattern_at(
+    alloc: Global,
+    text: &[u8],
+    declared: &Declared,
+    names: &NamedPatterns,
+) -> Result<PatternReading, PatternFault> {
+    let window = front(MAX_FLEX_PATTERN_BYTES, text);
+    let reading = read_pattern(alloc, window, names, declared.options)?;
+    if reading.length == window.len() && window.len() < text.len() {
+        return Err(PatternFault::TooLarge);
+    }
+    Ok(reading)
+}
+
 /// Reads the pattern, or returns `None` with a report. Its action follows.
 fn read_rule_pattern(
     alloc: Global,
@@ -177,9 +193,9 @@ fn read_rule_pattern(
     declared: &Declared,
     names: &NamedPatterns,
     reports: &mut Reports,
-) -> Result<Option<Reading>, ReadFault> {
+) -> Result<Option<PatternReading>, ReadFault> {
     let line = cursor.line;
-    match read_pattern(alloc, cursor.rest(), names, declared.options) {
+    match pattern_at(alloc, cursor.rest(), declared, names) {
         Ok(reading) => {
             cursor.advance(reading.length);
             if is_behind_pattern(cursor) {
@@ -187,7 +203,7 @@ fn read_rule_pattern(
             }
             reports.add(line, ImportCause::BadRule, true)?;
         }
-        Err(lx_flex_pattern::PatternFault::Memory) => return Err(ReadFault::Memory),
+        Err(PatternFault::Memory) => return Err(ReadFault::Memory),
         Err(cause) => {
             reports.add(line, ImportCause::Pattern(cause), true)?;
             let length = lx_ere::pattern_end(cursor.line_rest());

@@ -1,6 +1,11 @@
-pub mod Sets
-pub mod Tree
-pub mod views
-pub mod Texts
+pub mod Faults
+pub mod Lexing
+pub mod Members
 pub mod Mirror
+pub mod Pieces
+pub mod Progress
+pub mod Reading
+pub mod ReadingOf
+pub mod Sets
+pub mod Spelling
 pub mod Translation

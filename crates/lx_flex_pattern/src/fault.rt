@@ -42,12 +42,22 @@ pub enum PatternFault {
 }
 
 impl From<AllocError> for PatternFault {
+    ghost use Rattle.std.specs.Prelude.{◌≡◌};
+    ghost use Rattle.lx_flex_pattern.specs.declared.fault.PatternFault.{PatternFault};
+
+    ghost from_gives = { λ _ fault. fault ≡ PatternFault.Memory };
+
     fn from(_e: AllocError) -> PatternFault {
         PatternFault::Memory
     }
 }
 
 impl<T: Drop> From<AllocFailed<T>> for PatternFault {
+    ghost use Rattle.std.specs.Prelude.{◌≡◌};
+    ghost use Rattle.lx_flex_pattern.specs.declared.fault.PatternFault.{PatternFault};
+
+    ghost from_gives = { λ _ fault. fault ≡ PatternFault.Memory };
+
     fn from(_e: AllocFailed<T>) -> PatternFault {
         PatternFault::Memory
     }

@@ -2,22 +2,20 @@
 #![tactic(auto)]
 
 mod brackets;
-pub mod classes;
-mod escapes;
 pub mod fault;
-mod groups;
+pub mod flags;
+mod lexing;
 pub mod mirror;
 pub mod names;
+pub mod options;
 mod printing;
 pub mod reading;
-pub mod sets;
-mod source;
+mod sets;
+mod spelling;
 pub mod translation;
-pub mod trees;
 
-pub use crate::classes::Class;
 pub use crate::fault::PatternFault;
 pub use crate::names::{NamedPattern, NamedPatterns};
-pub use crate::reading::{PatternOptions, Reading, read_pattern};
+pub use crate::options::PatternOptions;
+pub use crate::reading::{PatternReading, read_pattern};
 pub use crate::translation::{has_same_texts, is_read_as, translate, translate_substitute};
-pub use crate::trees::{FlexPattern, SetMember, Tree};

@@ -1,12 +1,9 @@
-//! Compares lx's reading of a pattern with flex's.
+//! Compares the tree that lx reads with another one.
 
-ghost use Rattle.std.specs.Prelude.{◌≡◌, IsTrue, true};
+ghost use Rattle.std.specs.Prelude.{◌≡◌, true};
 ghost use Rattle.lx_ere.specs.Regex.{regex_of};
 ghost use Rattle.lx_flex_pattern.specs.Mirror.{Mirrors};
-ghost use Rattle.lx_flex_pattern.specs.views.{tree_of};
 
-use crate::sets::has_bytes;
-use crate::trees::Tree;
 use lx_ere::Expr;
 
 fn same_high(one: Option<u8>, other: Option<u8>) -> bool
@@ -25,12 +22,12 @@ fn same_names(one: &[u8], other: &[u8]) -> bool
     one == other
 }
 
-/// Returns true only if lx's tree has the form of flex's, with the same bytes in each set.
-pub(crate) fn mirrors(tree: &Tree, expr: &Expr) -> bool
-    ensures { result ≡ true → Mirrors (tree_of tree.now) (regex_of expr.now) }
+/// Returns true only if the tree that lx read has the form of the other one, with the same sets. The empty word may be a body repeated no times.
+pub(crate) fn mirrors(tree: &Expr, expr: &Expr) -> bool
+    ensures { result ≡ true → Mirrors (regex_of tree.now) (regex_of expr.now) }
 {
     match tree {
-        Tree::Empty => match expr {
+        Expr::Nil => match expr {
             Expr::Times { body: _, low, high } => {
                 if *low != 0 {
                     return false;
@@ -39,15 +36,11 @@ pub(crate) fn mirrors(tree: &Tree, expr: &Expr) -> bool
             }
             _ => false,
         },
-        Tree::OneOf {
-            excluded,
-            fold,
-            members,
-        } => match expr {
-            Expr::Set(found) => has_bytes(found, *excluded, *fold, members.as_slice()),
+        Expr::Set(set) => match expr {
+            Expr::Set(found) => set == found,
             _ => false,
         },
-        Tree::Then(first, second) => match expr {
+        Expr::Then(first, second) => match expr {
             Expr::Then(lx_first, lx_second) => {
                 if !mirrors(first, lx_first) {
                     return false;
@@ -56,7 +49,7 @@ pub(crate) fn mirrors(tree: &Tree, expr: &Expr) -> bool
             }
             _ => false,
         },
-        Tree::Or(this, that) => match expr {
+        Expr::Or(this, that) => match expr {
             Expr::Or(lx_this, lx_that) => {
                 if !mirrors(this, lx_this) {
                     return false;
@@ -65,7 +58,7 @@ pub(crate) fn mirrors(tree: &Tree, expr: &Expr) -> bool
             }
             _ => false,
         },
-        Tree::Times { body, low, high } => match expr {
+        Expr::Times { body, low, high } => match expr {
             Expr::Times {
                 body: lx_body,
                 low: lx_low,
@@ -81,7 +74,7 @@ pub(crate) fn mirrors(tree: &Tree, expr: &Expr) -> bool
             }
             _ => false,
         },
-        Tree::Name(name) => match expr {
+        Expr::Name(name) => match expr {
             Expr::Name(lx_name) => same_names(name.as_slice(), lx_name.as_slice()),
             _ => false,
         },

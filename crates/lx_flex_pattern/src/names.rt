@@ -1,5 +1,9 @@
 //! Definitions that patterns name.
 
+ghost use Rattle.std.specs.Prelude.{◌≡◌};
+ghost use Rattle.std.specs.Option.{option_map};
+ghost use Rattle.lx_flex_pattern.specs.Pieces.{definition_of, names_of};
+
 use std::alloc::{AllocError, Global};
 use std::collections::BTreeMap;
 
@@ -27,7 +31,9 @@ impl NamedPatterns {
     }
 
     /// Returns the definition of a name.
-    pub fn get(&self, name: &[u8]) -> Option<&NamedPattern> {
+    pub fn get(&self, name: &[u8]) -> Option<&NamedPattern>
+        ensures { option_map (λ d. definition_of d.now) result ≡ names_of self.now name.now }
+    {
         self.entries.get(name)
     }
 

@@ -1,8 +1,7 @@
 //! Prints patterns in lx's syntax.
 
-use crate::classes::{Class, class_has, is_letter, other_case};
-use crate::trees::{FlexPattern, SetMember, Tree};
 use itoa::Buffer;
+use lx_ere::{ByteSet, Expr, Pattern};
 use std::alloc::{AllocError, Global};
 
 /// The place of a part in a pattern.
@@ -102,41 +101,17 @@ fn push_range(text: &mut Vec<u8>, low: u8, high: u8) -> Result<(), AllocError> {
     push_point(text, high)
 }
 
-fn class_name(class: Class) -> &'static [u8] {
-    match class {
-        Class::Alnum => b"alnum",
-        Class::Alpha => b"alpha",
-        Class::Blank => b"blank",
-        Class::Cntrl => b"cntrl",
-        Class::Digit => b"digit",
-        Class::Graph => b"graph",
-        Class::Lower => b"lower",
-        Class::Print => b"print",
-        Class::Punct => b"punct",
-        Class::Space => b"space",
-        Class::Upper => b"upper",
-        Class::Xdigit => b"xdigit",
-    }
-}
-
-fn push_class(text: &mut Vec<u8>, class: Class, fold: bool) -> Result<(), AllocError> {
-    let folded = fold && (class == Class::Upper || class == Class::Lower);
-    push(text, b"[:")?;
-    push(text, if folded { b"alpha" } else { class_name(class) })?;
-    push(text, b":]")
-}
-
-/// Appends the ranges of the bytes that aren't in a class.
-fn push_other_bytes(text: &mut Vec<u8>, class: Class) -> Result<(), AllocError> {
+/// Appends the ranges of the bytes that are in the set, or of those that aren't.
+fn push_ranges(text: &mut Vec<u8>, set: &ByteSet, inside: bool) -> Result<(), AllocError> {
     let mut first: Option<u8> = None;
     for byte in 0..=255u8 {
-        if class_has(false, class, byte) {
-            if let Some(low) = first {
-                push_range(text, low, byte.saturating_sub(1))?;
+        if set.has(byte) == inside {
+            if first.is_none() {
+                first = Some(byte);
             }
+        } else if let Some(low) = first {
+            push_range(text, low, byte.saturating_sub(1))?;
             first = None;
-        } else if first.is_none() {
-            first = Some(byte);
         }
     }
     match first {
@@ -145,79 +120,56 @@ fn push_other_bytes(text: &mut Vec<u8>, class: Class) -> Result<(), AllocError> 
     }
 }
 
-fn push_member(text: &mut Vec<u8>, member: SetMember, fold: bool) -> Result<(), AllocError> {
-    match member {
-        SetMember::Range(low, high) => {
-            push_range(text, low, high)?;
-            let other_low = other_case(low);
-            let other_high = other_case(high);
-            if fold && is_letter(low) && is_letter(high) && other_low <= other_high {
-                push_range(text, other_low, other_high)?;
-            }
-            Ok(())
+/// Returns the number of bytes of a set.
+fn size(set: &ByteSet) -> u16 {
+    let mut count: u16 = 0;
+    for byte in 0..=255u8 {
+        if set.has(byte) {
+            count = count.saturating_add(1);
         }
-        SetMember::Class(class) => push_class(text, class, fold),
-        SetMember::NotClass(class) => push_other_bytes(text, class),
     }
+    count
 }
 
-fn push_brackets(
-    text: &mut Vec<u8>,
-    excluded: bool,
-    fold: bool,
-    members: &[SetMember],
-) -> Result<(), AllocError> {
-    push(text, if excluded { b"[^" } else { b"[" })?;
-    for member in members {
-        push_member(text, *member, fold)?;
+/// Returns the byte of a set that has no other one.
+fn single_byte(set: &ByteSet) -> Option<u8> {
+    if size(set) != 1 {
+        return None;
     }
+    for byte in 0..=255u8 {
+        if set.has(byte) {
+            return Some(byte);
+        }
+    }
+    None
+}
+
+/// Appends a set: a byte, a period, or brackets. Those exclude the bytes that the set hasn't if there are fewer of them.
+fn push_set(text: &mut Vec<u8>, set: &ByteSet) -> Result<(), AllocError> {
+    if let Some(byte) = single_byte(set) {
+        return push_single(text, byte);
+    }
+    let count = size(set);
+    if count == 255 && !set.has(b'\n') {
+        return push(text, b".");
+    }
+    let inside = count != 0 && (count <= 128 || count == 256);
+    push(text, if inside { b"[" } else { b"[^" })?;
+    push_ranges(text, set, inside)?;
     push(text, b"]")
 }
 
-/// Returns the byte of a set that has no other one, even if case is ignored.
-fn single_byte(excluded: bool, fold: bool, members: &[SetMember]) -> Option<u8> {
-    match members {
-        [SetMember::Range(low, high)] => {
-            if excluded || low != high || (fold && is_letter(*low)) {
-                None
-            } else {
-                Some(*low)
-            }
-        }
-        _ => None,
-    }
-}
-
-fn push_set(
-    text: &mut Vec<u8>,
-    excluded: bool,
-    fold: bool,
-    members: &[SetMember],
-) -> Result<(), AllocError> {
-    if let Some(byte) = single_byte(excluded, fold, members) {
-        return push_single(text, byte);
-    }
-    if excluded && members == [SetMember::Range(b'\n', b'\n')].as_slice() {
-        return push(text, b".");
-    }
-    push_brackets(text, excluded, fold, members)
-}
-
-fn tree_byte(tree: &Tree) -> Option<u8> {
+fn tree_byte(tree: &Expr) -> Option<u8> {
     match tree {
-        Tree::OneOf {
-            excluded,
-            fold,
-            members,
-        } => single_byte(*excluded, *fold, members.as_slice()),
+        Expr::Set(set) => single_byte(set),
         _ => None,
     }
 }
 
 /// Appends the bytes of a string tree, from the last to the first. Returns false if the tree is anything else.
-fn string_backwards(string: &mut Vec<u8>, tree: &Tree) -> Result<bool, AllocError> {
+fn string_backwards(string: &mut Vec<u8>, tree: &Expr) -> Result<bool, AllocError> {
     match tree {
-        Tree::Then(before, last) => {
+        Expr::Then(before, last) => {
             let Some(byte) = tree_byte(last) else {
                 return Ok(false);
             };
@@ -235,7 +187,7 @@ fn string_backwards(string: &mut Vec<u8>, tree: &Tree) -> Result<bool, AllocErro
 }
 
 /// Returns the bytes of a string tree, or `None` if the tree is anything else.
-fn string_of(alloc: Global, tree: &Tree) -> Result<Option<Vec<u8>>, AllocError> {
+fn string_of(alloc: Global, tree: &Expr) -> Result<Option<Vec<u8>>, AllocError> {
     let mut string = Vec::new(alloc);
     if !string_backwards(&mut string, tree)? {
         return Ok(None);
@@ -288,23 +240,19 @@ fn push_if(text: &mut Vec<u8>, wanted: bool, bytes: &[u8]) -> Result<(), AllocEr
 
 /// Appends the tree. Adds parentheses if it has to be one unit and isn't.
 fn push_tree(
-    tree: &Tree,
+    tree: &Expr,
     text: &mut Vec<u8>,
     alloc: Global,
     level: Level,
 ) -> Result<(), AllocError> {
     match tree {
-        Tree::Empty => {
+        Expr::Nil => {
             push_if(text, level == Level::Unit, b"(")?;
             push(text, b"a{0}")?;
             push_if(text, level == Level::Unit, b")")
         }
-        Tree::OneOf {
-            excluded,
-            fold,
-            members,
-        } => push_set(text, *excluded, *fold, members.as_slice()),
-        Tree::Then(first, second) => {
+        Expr::Set(set) => push_set(text, set),
+        Expr::Then(first, second) => {
             if let Some(string) = string_of(alloc, tree)? {
                 if level == Level::Unit || wants_quotes(string.as_slice()) {
                     return push_string(text, string.as_slice());
@@ -315,14 +263,14 @@ fn push_tree(
             push_tree(second, text, alloc, Level::Unit)?;
             push_if(text, level == Level::Unit, b")")
         }
-        Tree::Or(this, that) => {
+        Expr::Or(this, that) => {
             push_if(text, level != Level::Alternation, b"(")?;
             push_tree(this, text, alloc, Level::Alternation)?;
             push(text, b"|")?;
             push_tree(that, text, alloc, Level::Branch)?;
             push_if(text, level != Level::Alternation, b")")
         }
-        Tree::Times { body, low, high } => {
+        Expr::Times { body, low, high } => {
             if let Some(byte) = operator(*low, *high) {
                 push_tree(body, text, alloc, Level::Unit)?;
                 return push(text, &[byte]);
@@ -332,7 +280,7 @@ fn push_tree(
             push_bounds(text, *low, *high)?;
             push_if(text, level == Level::Unit, b")")
         }
-        Tree::Name(name) => {
+        Expr::Name(name) => {
             push(text, b"{")?;
             push(text, name.as_slice())?;
             push(text, b"}")
@@ -341,17 +289,17 @@ fn push_tree(
 }
 
 /// Prints the tree in lx's syntax.
-pub(crate) fn printed_tree(alloc: Global, tree: &Tree) -> Result<Vec<u8>, AllocError> {
+pub(crate) fn printed_tree(alloc: Global, tree: &Expr) -> Result<Vec<u8>, AllocError> {
     let mut text = Vec::new(alloc);
     push_tree(tree, &mut text, alloc, Level::Alternation)?;
     Ok(text)
 }
 
 /// Prints the pattern in lx's syntax.
-pub(crate) fn print_pattern(alloc: Global, pattern: &FlexPattern) -> Result<Vec<u8>, AllocError> {
+pub(crate) fn print_pattern(alloc: Global, pattern: &Pattern) -> Result<Vec<u8>, AllocError> {
     let mut text = Vec::new(alloc);
     push_if(&mut text, pattern.line_begin, b"^")?;
-    push_tree(&pattern.tree, &mut text, alloc, Level::Alternation)?;
+    push_tree(&pattern.expr, &mut text, alloc, Level::Alternation)?;
     push_if(&mut text, pattern.line_end, b"$")?;
     Ok(text)
 }

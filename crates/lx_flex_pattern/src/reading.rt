@@ -1,504 +1,427 @@
 //! Reads flex patterns once from left to right (flex's manual, "Patterns").
 
-use crate::brackets::{combine, is_excluded, read_brackets};
-use crate::classes::is_letter;
-use crate::escapes::{is_digit, read_escape, read_interval, read_name};
+ghost use Rattle.std.specs.Prelude.{◌≡◌, ◌≢◌, ◌+◌, ◌-◌, ◌++◌, IfErr, IfOk, IfSome, List, None, Option, Some, false, length, map, true, ℕ};
+ghost use Rattle.std.specs.Option.{option_map};
+ghost use Rattle.lx_ere.specs.Groups.{groups_of};
+ghost use Rattle.lx_ere.specs.Lexemes.{lexeme_of};
+ghost use Rattle.lx_ere.specs.Regex.{regex_of};
+ghost use Rattle.lx_ere.specs.Stacks.{run};
+ghost use Rattle.lx_flex_pattern.specs.Faults.{is_limit};
+ghost use Rattle.lx_flex_pattern.specs.Lexing.{Definition};
+ghost use Rattle.lx_flex_pattern.specs.Pieces.{names_of, state_of};
+ghost use Rattle.lx_flex_pattern.specs.Progress.{Reached, ReadsNothing, Tells, end_of, halts, outcome_of, place_of, stop_of};
+ghost use Rattle.lx_flex_pattern.specs.Reading.{EndsAt, FlexReading, IsFlexPattern, Place, Reads, at_end, place};
+ghost use Rattle.lx_flex_pattern.specs.ReadingOf.{reading_of};
+
 use crate::fault::PatternFault;
-use crate::groups::{Flags, GroupStack};
+use crate::lexing::{PatternState, Piece, piece_at};
 use crate::names::NamedPatterns;
-use crate::source::{MAX_FLEX_PATTERN_BYTES, Source, front};
-use crate::trees::{FlexPattern, SetMember, Tree};
+use crate::options::PatternOptions;
+use lx_ere::groups::{Groups, finish, no_groups, step};
+use lx_ere::lexeme::Lexeme;
+use lx_ere::{Expr, Pattern};
 use std::alloc::{AllocError, Global};
 
-/// Greatest number of steps of reading. Each one takes a byte or inserts a definition.
-const MAX_STEPS: u32 = 32_768;
+/// Greatest number of bytes of a pattern in a file, including comments within `(?x:`.
+pub const MAX_FLEX_PATTERN_BYTES: usize = 4096;
 
-/// The options for reading a file's patterns.
-#[derive(Debug, Clone, Copy, PartialEq, Eq)]
-pub struct PatternOptions {
-    /// True if case is ignored: `%option case-insensitive`.
-    pub fold: bool,
-    /// True if an interval repeats all to its left, and `(?` has no special meaning: `%option posix-compat` and `lex-compat`.
-    pub posix: bool,
-    /// True if a definition's text is inserted without parentheses: `%option lex-compat`.
-    pub bare_names: bool,
-}
+// Greatest number of parts of a pattern. With more, the printed pattern would be longer than lx accepts.
+const MAX_PARTS: u16 = 1024;
+
+// Greatest number of bytes that may be left after a definition's text was inserted.
+const MAX_INLINED_BYTES: usize = 8192;
+
+// Greatest number of definitions that are inserted for one pattern.
+const MAX_INLINED: u16 = 128;
 
 /// A pattern that was read.
 #[derive(Debug, Drop)]
-pub struct Reading {
-    /// The pattern, without its trailing context (`r/s`).
-    pub pattern: FlexPattern,
-    /// True if there is a trailing context other than a newline.
-    pub trailing: bool,
+pub struct PatternReading {
+    /// The pattern, without the trailing context after a `/`.
+    pub pattern: Pattern,
+    /// The trailing context.
+    pub trailing: Option<Expr>,
     /// Number of bytes of the pattern.
     pub length: usize,
 }
 
-/// The state while a pattern is read.
+// The place of a part of a pattern: the text from there on, and the number of its first bytes that definitions inserted.
 #[derive(Drop)]
-struct ReadingState {
-    source: Source,
-    groups: GroupStack,
-    /// True if the last unit is brackets, after which `{-}` and `{+}` may follow.
-    brackets: bool,
+struct PlaceInText {
+    state: PatternState,
+    text: Vec<u8>,
+    inserted: usize,
+    // Number of parts that may be read from there on.
+    parts: u16,
+}
+
+// The stop of a row of parts.
+#[derive(Clone, Copy)]
+enum RowStop {
+    End,
+    /// A `$` before the end.
+    Dollar,
+    /// The `/` before a trailing context.
+    Slash,
+}
+
+// What follows the parts that were read in one go: a definition's text, or the stop of the row.
+#[derive(Drop)]
+enum RowEnd {
+    Inserts(Groups, PlaceInText),
+    Stops(Groups, RowStop, PlaceInText),
+}
+
+// An alternation that was read, its stop and the place after it.
+#[derive(Drop)]
+struct Alternation {
+    tree: Expr,
+    stop: RowStop,
+    last: PlaceInText,
+}
+
+// Returns the number of inserted bytes that are left.
+fn inserted_left(inserted: usize, before: &[u8], after: &[u8]) -> usize
+    ensures { result ≡ inserted - (length before.now - length after.now) }
+{
+    inserted.saturating_sub(before.len().saturating_sub(after.len()))
+}
+
+// Hands lexemes to the open groups. Returns `None` if one isn't allowed there.
+fn take_lexemes(
+    alloc: Global,
+    groups: Groups,
+    lexemes: Vec<Lexeme>,
+) -> Result<Option<Groups>, AllocError>
+    ensures { IfOk result (λ o.
+        option_map groups_of o ≡ run (map lexeme_of lexemes.items) (groups_of groups)) }
+{
+    let mut groups = groups;
+    for lexeme in lexemes {
+        let Some(next) = step(alloc, groups, lexeme)? else {
+            return Ok(None);
+        };
+        groups = next;
+    }
+    Ok(Some(groups))
+}
+
+// Returns the place at a definition's text.
+fn place_at_text(
+    alloc: Global,
+    state: PatternState,
+    front: &[u8],
+    inserted: usize,
+    rest: &[u8],
+) -> Result<PlaceInText, PatternFault>
+    ensures ok { IfOk result (λ p. place_of p
+        ≡ place (state_of state) (length front.now + inserted) (front.now ++ rest.now)) }
+    ensures err { IfErr result (λ fault. is_limit fault ≡ true) }
+{
+    if front.len() > MAX_INLINED_BYTES || rest.len() > MAX_INLINED_BYTES || inserted > rest.len() {
+        return Err(PatternFault::TooLarge);
+    }
+    let mut text = Vec::from_slice(alloc, front)?;
+    text.extend_from_slice(rest)?;
+    let inserted = front.len() + inserted;
+    Ok(PlaceInText {
+        state,
+        text,
+        inserted,
+        parts: 0,
+    })
+}
+
+// Ends a row of parts.
+fn stopped(
+    alloc: Global,
+    groups: Groups,
+    lexemes: Vec<Lexeme>,
+    stop: RowStop,
+    state: PatternState,
+    inserted: usize,
+    rest: &[u8],
+) -> Result<RowEnd, PatternFault>
+    ensures ok { IfOk result (λ end.
+        option_map (λ g. halts g (stop_of stop) (place (state_of state) inserted rest.now))
+        (run (map lexeme_of lexemes.items) (groups_of groups)) ≡ Some (end_of end)) }
+    ensures refused { IfErr result (λ fault. is_limit fault ≡ false
+        → run (map lexeme_of lexemes.items) (groups_of groups) ≡ None) }
+{
+    let Some(groups) = take_lexemes(alloc, groups, lexemes)? else {
+        return Err(PatternFault::NoForm);
+    };
+    let last = PlaceInText {
+        state,
+        text: Vec::from_slice(alloc, rest)?,
+        inserted,
+        parts: 0,
+    };
+    Ok(RowEnd::Stops(groups, stop, last))
+}
+
+// One part of a row: the place after it, or the end of what can be read in one go.
+#[derive(Drop)]
+enum RowPart<'t> {
+    Goes(Groups, PatternState, usize, &'t [u8]),
+    Done(RowEnd),
+}
+
+// Reads a part.
+fn read_part<'t>(
+    alloc: Global,
+    options: PatternOptions,
+    names: &NamedPatterns,
+    groups: Groups,
+    state: PatternState,
+    inserted: usize,
+    text: &'t [u8],
+) -> Result<RowPart<'t>, PatternFault>
+    ensures ok { IfOk result (λ part. (from : Place)
+        → Reached options (names_of names.now) from (groups_of groups)
+        (place (state_of state) inserted text.now)
+        → Tells options (names_of names.now) from (outcome_of part)) }
+    ensures refused { IfErr result (λ fault. is_limit fault ≡ false → (from : Place)
+        → Reached options (names_of names.now) from (groups_of groups)
+        (place (state_of state) inserted text.now)
+        → ReadsNothing options (names_of names.now) from) }
+{
+    let piece = piece_at(alloc, options, names, state, text)?;
+    match piece {
+        Piece::Goes(lexemes, next, rest) => {
+            let left = inserted_left(inserted, text, rest);
+            let Some(groups) = take_lexemes(alloc, groups, lexemes)? else {
+                return Err(PatternFault::NoForm);
+            };
+            Ok(RowPart::Goes(groups, next, left, rest))
+        }
+        Piece::Inserts(lexemes, next, front, rest) => {
+            let left = inserted_left(inserted, text, rest);
+            let Some(groups) = take_lexemes(alloc, groups, lexemes)? else {
+                return Err(PatternFault::NoForm);
+            };
+            let next = place_at_text(alloc, next, front.as_slice(), left, rest)?;
+            Ok(RowPart::Done(RowEnd::Inserts(groups, next)))
+        }
+        Piece::Ends(lexemes, last, rest) => {
+            let left = inserted_left(inserted, text, rest);
+            let end = stopped(alloc, groups, lexemes, RowStop::End, last, left, rest)?;
+            Ok(RowPart::Done(end))
+        }
+        Piece::EndsLine(lexemes, last, rest) => {
+            let left = inserted_left(inserted, text, rest);
+            let end = stopped(alloc, groups, lexemes, RowStop::Dollar, last, left, rest)?;
+            Ok(RowPart::Done(end))
+        }
+        Piece::Slash(lexemes, last, rest) => {
+            let left = inserted_left(inserted, text, rest);
+            let end = stopped(alloc, groups, lexemes, RowStop::Slash, last, left, rest)?;
+            Ok(RowPart::Done(end))
+        }
+        Piece::Wrong(fault) => Err(fault),
+    }
+}
+
+// Returns the place with this number of parts that may be read.
+fn with_parts(place: PlaceInText, parts: u16) -> PlaceInText
+    ensures { place_of result ≡ place_of place }
+{
+    let PlaceInText {
+        state,
+        text,
+        inserted,
+        parts: _parts,
+    } = place;
+    PlaceInText {
+        state,
+        text,
+        inserted,
+        parts,
+    }
+}
+
+// Returns the end of what was read in one go, with this number of parts that may be read.
+fn end_with_parts(end: RowEnd, parts: u16) -> RowEnd
+    ensures { end_of result ≡ end_of end }
+{
+    match end {
+        RowEnd::Inserts(groups, place) => RowEnd::Inserts(groups, with_parts(place, parts)),
+        RowEnd::Stops(groups, stop, place) => {
+            RowEnd::Stops(groups, stop, with_parts(place, parts))
+        }
+    }
+}
+
+// Reads parts up to a definition's text or to the stop of the row.
+fn read_row(
+    alloc: Global,
+    options: PatternOptions,
+    names: &NamedPatterns,
+    groups: Groups,
+    place: PlaceInText,
+) -> Result<RowEnd, PatternFault>
+    ensures ok { IfOk result (λ end. (from : Place)
+        → Reached options (names_of names.now) from (groups_of groups) (place_of place)
+        → Tells options (names_of names.now) from (end_of end)) }
+    ensures refused { IfErr result (λ fault. is_limit fault ≡ false → (from : Place)
+        → Reached options (names_of names.now) from (groups_of groups) (place_of place)
+        → ReadsNothing options (names_of names.now) from) }
+{
+    let PlaceInText {
+        state,
+        text,
+        inserted,
+        parts,
+    } = place;
+    let mut state = state;
+    let mut groups = groups;
+    let mut inserted = inserted;
+    let mut parts = parts;
+    let mut rest = text.as_slice();
+    while parts > 0 {
+        parts -= 1;
+        match read_part(alloc, options, names, groups, state, inserted, rest)? {
+            RowPart::Goes(next_groups, next_state, left, behind) => {
+                groups = next_groups;
+                state = next_state;
+                inserted = left;
+                rest = behind;
+            }
+            RowPart::Done(end) => return Ok(end_with_parts(end, parts)),
+        }
+    }
+    Err(PatternFault::TooLarge)
+}
+
+// Reads an alternation, up to its stop.
+fn read_alternation(
+    alloc: Global,
+    options: PatternOptions,
+    names: &NamedPatterns,
+    place: PlaceInText,
+) -> Result<Alternation, PatternFault>
+    ensures ok { IfOk result (λ a. Reads options (names_of names.now) (place_of place)
+        (regex_of a.tree) (stop_of a.stop) (place_of a.last)) }
+    ensures refused { IfErr result (λ fault. is_limit fault ≡ false
+        → ReadsNothing options (names_of names.now) (place_of place)) }
+{
+    let mut groups = no_groups(alloc);
+    let mut place = place;
+    for _ in 0..MAX_INLINED {
+        match read_row(alloc, options, names, groups, place)? {
+            RowEnd::Inserts(next_groups, next) => {
+                groups = next_groups;
+                place = next;
+            }
+            RowEnd::Stops(last_groups, stop, last) => {
+                let Some(tree) = finish(alloc, last_groups)? else {
+                    return Err(PatternFault::NotClosed);
+                };
+                return Ok(Alternation { tree, stop, last });
+            }
+        }
+    }
+    Err(PatternFault::TooLarge)
+}
+
+// Returns true if a row stops at the end of the pattern.
+fn is_end(stop: RowStop) -> bool
+    ensures end { result ≡ true → stop_of stop ≡ at_end }
+    ensures other { result ≡ false → stop_of stop ≢ at_end }
+{
+    matches!(stop, RowStop::End)
+}
+
+// Returns the reading of a pattern that ends at this place of the text. Returns `None` if it ends in a definition's text.
+fn finished(
+    text: &[u8],
     line_begin: bool,
     line_end: bool,
-    /// The part before a `/`.
-    head: Option<Tree>,
-}
-
-fn base_flags(options: PatternOptions) -> Flags {
-    Flags {
-        fold: options.fold,
-        dot_all: false,
-        extended: false,
+    expr: Expr,
+    trailing: Option<Expr>,
+    last: &PlaceInText,
+) -> Option<PatternReading>
+    ensures ends { IfSome result (λ r. EndsAt text.now r.length (place_of last.now)) }
+    ensures reading { IfSome result (λ r. reading_of r ≡ record {
+      line_begin = line_begin;
+      line_end = line_end;
+      tree = regex_of expr;
+      trailing = option_map regex_of trailing;
+      length = r.length;
+    }) }
+    ensures none { result ≡ None → (n : ℕ) → EndsAt text.now n (place_of last.now) → ⊥ }
+{
+    if last.inserted != 0 || last.text.len() > text.len() {
+        return None;
     }
-}
-
-/// Returns the set of one byte.
-fn byte_tree(alloc: Global, byte: u8, fold: bool) -> Result<Tree, AllocError> {
-    let mut members = Vec::new(alloc);
-    members.push(SetMember::Range(byte, byte))?;
-    Ok(Tree::OneOf {
-        excluded: false,
-        fold: fold && is_letter(byte),
-        members,
-    })
-}
-
-/// Returns the set of a period.
-fn period_tree(alloc: Global, dot_all: bool) -> Result<Tree, AllocError> {
-    let mut members = Vec::new(alloc);
-    if dot_all {
-        members.push(SetMember::Range(0, 255))?;
-    } else {
-        members.push(SetMember::Range(b'\n', b'\n'))?;
-    }
-    Ok(Tree::OneOf {
-        excluded: !dot_all,
-        fold: false,
-        members,
-    })
-}
-
-/// Reads a byte of a quoted string.
-fn read_quoted_byte(source: &mut Source) -> Result<u8, PatternFault> {
-    let Some(byte) = source.peek() else {
-        return Err(PatternFault::NotClosed);
-    };
-    if byte == b'\n' {
-        return Err(PatternFault::NotClosed);
-    }
-    source.advance(1);
-    if byte == b'\\' {
-        return read_escape(source);
-    }
-    Ok(byte)
-}
-
-/// Reads a quoted string, starting after the `"`.
-fn read_quoted(alloc: Global, source: &mut Source, fold: bool) -> Result<Tree, PatternFault> {
-    let mut string: Option<Tree> = None;
-    for _ in 0..1024 {
-        if source.is_at(b'"') {
-            source.advance(1);
-            return Ok(string.unwrap_or(Tree::Empty));
-        }
-        let byte = read_quoted_byte(source)?;
-        let next = byte_tree(alloc, byte, fold)?;
-        string = match string {
-            None => Some(next),
-            Some(before) => {
-                let left = Box::new(alloc, before)?;
-                let right = Box::new(alloc, next)?;
-                Some(Tree::Then(left, right))
-            }
-        };
-    }
-    Err(PatternFault::TooLarge)
-}
-
-fn push_byte(alloc: Global, state: &mut ReadingState, byte: u8) -> Result<(), PatternFault> {
-    let unit = byte_tree(alloc, byte, state.groups.flags.fold)?;
-    state.groups.push(alloc, unit)
-}
-
-/// Skips the text up to and including this mark.
-fn skip_comment(source: &mut Source, mark: &[u8]) -> Result<(), PatternFault> {
-    for _ in 0..MAX_FLEX_PATTERN_BYTES {
-        if source.begins_with(mark) {
-            source.advance(mark.len());
-            return Ok(());
-        }
-        if source.peek().is_none() {
-            return Err(PatternFault::NotClosed);
-        }
-        source.advance(1);
-    }
-    Err(PatternFault::NotClosed)
-}
-
-fn with_flag(flags: Flags, letter: u8, on: bool) -> Option<Flags> {
-    match letter {
-        b'i' => Some(Flags { fold: on, ..flags }),
-        b's' => Some(Flags {
-            dot_all: on,
-            ..flags
-        }),
-        b'x' => Some(Flags {
-            extended: on,
-            ..flags
-        }),
-        _ => None,
-    }
-}
-
-/// Reads the flags of a group, from after `(?` to after the colon.
-fn read_flags(source: &mut Source, outer: Flags) -> Result<Flags, PatternFault> {
-    let mut flags = outer;
-    let mut on = true;
-    for _ in 0..MAX_FLEX_PATTERN_BYTES {
-        let Some(letter) = source.peek() else {
-            return Err(PatternFault::NotClosed);
-        };
-        source.advance(1);
-        if letter == b':' {
-            return Ok(flags);
-        }
-        if letter == b'-' && on {
-            on = false;
-        } else {
-            flags = match with_flag(flags, letter, on) {
-                Some(flags) => flags,
-                None => return Err(PatternFault::NoForm),
-            };
-        }
-    }
-    Err(PatternFault::NoForm)
-}
-
-/// Reads a group's opening, starting after the `(`.
-fn read_open(state: &mut ReadingState, options: PatternOptions) -> Result<(), PatternFault> {
-    let flags = state.groups.flags;
-    if options.posix || !state.source.is_at(b'?') {
-        return state.groups.open(flags);
-    }
-    state.source.advance(1);
-    if state.source.is_at(b'#') {
-        return skip_comment(&mut state.source, b")");
-    }
-    let flags = read_flags(&mut state.source, flags)?;
-    state.groups.open(flags)
-}
-
-/// Inserts a definition's text before the rest of the text.
-fn inline(
-    alloc: Global,
-    state: &mut ReadingState,
-    text: &[u8],
-    bare: bool,
-) -> Result<(), PatternFault> {
-    let begins = front(1, text) == b"^".as_slice();
-    let ends = match text.last() {
-        Some(last) => *last == b'$',
-        None => false,
-    };
-    if begins && !(state.groups.is_fresh() && state.head.is_none() && !state.line_begin) {
-        return Err(PatternFault::NoForm);
-    }
-    if bare || begins || ends {
-        state.source.inline(alloc, b"", text, b"")
-    } else {
-        state.source.inline(alloc, b"(", text, b")")
-    }
-}
-
-/// Reads a name in braces, starting after the `{`.
-fn read_named(
-    alloc: Global,
-    state: &mut ReadingState,
-    names: &NamedPatterns,
-    options: PatternOptions,
-) -> Result<(), PatternFault> {
-    let Some(name) = read_name(alloc, &mut state.source)? else {
-        return Err(PatternFault::NoForm);
-    };
-    let Some(definition) = names.get(name.as_slice()) else {
-        return Err(PatternFault::Undefined);
-    };
-    if state.groups.flags == base_flags(options) && !options.bare_names {
-        if let Some(lx_name) = &definition.lx_name {
-            let lx_name = lx_name.clone()?;
-            return state.groups.push(alloc, Tree::Name(lx_name));
-        }
-    }
-    inline(alloc, state, definition.text.as_slice(), options.bare_names)
-}
-
-/// Reads the brackets after `{-}` or `{+}`, starting after the `}`.
-fn read_combination(
-    alloc: Global,
-    state: &mut ReadingState,
-    union: bool,
-) -> Result<(), PatternFault> {
-    if !state.brackets || !state.source.is_at(b'[') {
-        return Err(PatternFault::NoForm);
-    }
-    state.source.advance(1);
-    let right = read_brackets(alloc, &mut state.source, state.groups.flags.fold)?;
-    let Some(left) = state.groups.take_unit() else {
-        return Err(PatternFault::NoForm);
-    };
-    if union && (is_excluded(&left) || is_excluded(&right)) {
-        return Err(PatternFault::ExcludedUnion);
-    }
-    let unit = combine(alloc, &left, &right, union)?;
-    state.groups.put_unit(unit);
-    Ok(())
-}
-
-/// Reads the text after a `{`. Returns true if the last unit is then brackets.
-fn read_brace(
-    alloc: Global,
-    state: &mut ReadingState,
-    names: &NamedPatterns,
-    options: PatternOptions,
-) -> Result<bool, PatternFault> {
-    if state.source.begins_with(b"-}") || state.source.begins_with(b"+}") {
-        let union = state.source.is_at(b'+');
-        state.source.advance(2);
-        read_combination(alloc, state, union)?;
-        return Ok(true);
-    }
-    if !is_digit(state.source.peek()) {
-        read_named(alloc, state, names, options)?;
-        return Ok(false);
-    }
-    let (low, high) = read_interval(&mut state.source)?;
-    if options.posix {
-        state.groups.repeat_branch(alloc, low, high)?;
-    } else {
-        state.groups.repeat(alloc, low, high)?;
-    }
-    Ok(false)
-}
-
-/// Returns true if only a line's end or a blank follows the next byte.
-fn is_last(source: &Source) -> bool {
-    match source.peek_at(1) {
-        None => true,
-        Some(next) => is_blank(next) || next == b'\n' || is_line_end(source, 1),
-    }
-}
-
-/// Returns true if a carriage return and a newline are `n` bytes ahead.
-fn is_line_end(source: &Source, n: usize) -> bool {
-    source.peek_at(n) == Some(b'\r') && source.peek_at(n.saturating_add(1)) == Some(b'\n')
-}
-
-fn is_blank(byte: u8) -> bool {
-    byte == b' ' || byte == b'\t'
-}
-
-/// Reads the text after a `/`. The pattern up to it becomes the head, and a new one begins.
-fn read_slash(alloc: Global, state: &mut ReadingState) -> Result<(), PatternFault> {
-    if state.head.is_some() || state.groups.is_open() {
-        return Err(PatternFault::NoForm);
-    }
-    let head = state.groups.finish(alloc)?;
-    state.head = Some(head);
-    Ok(())
-}
-
-/// Reads the text after a byte with a special meaning. Returns `None` if it has none, and otherwise true if the last unit is then brackets.
-fn read_special(
-    alloc: Global,
-    state: &mut ReadingState,
-    names: &NamedPatterns,
-    options: PatternOptions,
-    byte: u8,
-) -> Result<Option<bool>, PatternFault> {
-    let fold = state.groups.flags.fold;
-    match byte {
-        b'[' => {
-            let unit = read_brackets(alloc, &mut state.source, fold)?;
-            state.groups.push(alloc, unit)?;
-            return Ok(Some(true));
-        }
-        b'{' => return Ok(Some(read_brace(alloc, state, names, options)?)),
-        b'"' => {
-            let unit = read_quoted(alloc, &mut state.source, fold)?;
-            state.groups.push(alloc, unit)?;
-        }
-        b'\\' => {
-            let escaped = read_escape(&mut state.source)?;
-            push_byte(alloc, state, escaped)?;
-        }
-        b'.' => {
-            let unit = period_tree(alloc, state.groups.flags.dot_all)?;
-            state.groups.push(alloc, unit)?;
-        }
-        b'(' => read_open(state, options)?,
-        b')' => state.groups.close(alloc)?,
-        b'*' => state.groups.repeat(alloc, 0, None)?,
-        b'+' => state.groups.repeat(alloc, 1, None)?,
-        b'?' => state.groups.repeat(alloc, 0, Some(1))?,
-        b'|' => state.groups.next_alternative(alloc)?,
-        b'/' => read_slash(alloc, state)?,
-        b'}' => return Err(PatternFault::NoForm),
-        _ => return Ok(None),
-    }
-    Ok(Some(false))
-}
-
-/// Skips blanks, newlines and comments inside `(?x:`. Returns true if there was any.
-fn skip_extended(state: &mut ReadingState, byte: u8) -> Result<bool, PatternFault> {
-    if is_blank(byte) || byte == b'\n' || is_line_end(&state.source, 0) {
-        state.source.advance(1);
-        return Ok(true);
-    }
-    if state.source.begins_with(b"/*") {
-        state.source.advance(2);
-        skip_comment(&mut state.source, b"*/")?;
-        return Ok(true);
-    }
-    Ok(false)
-}
-
-/// Returns true if the pattern ends before this byte, which is next: at a blank, at a line's end, or at its final `$`.
-fn ends_at(state: &mut ReadingState, byte: u8) -> Result<bool, PatternFault> {
-    if is_blank(byte) || byte == b'\n' || is_line_end(&state.source, 0) {
-        return Ok(true);
-    }
-    if byte == b'$' && is_last(&state.source) {
-        if state.groups.is_open() || state.head.is_some() {
-            return Err(PatternFault::NoForm);
-        }
-        state.line_end = true;
-        state.source.advance(1);
-        return Ok(true);
-    }
-    Ok(false)
-}
-
-/// Reads one more part. Returns true if the pattern goes on.
-fn step(
-    alloc: Global,
-    state: &mut ReadingState,
-    names: &NamedPatterns,
-    options: PatternOptions,
-    byte: u8,
-) -> Result<bool, PatternFault> {
-    if state.groups.flags.extended {
-        if skip_extended(state, byte)? {
-            return Ok(true);
-        }
-    }
-    if ends_at(state, byte)? {
-        return Ok(false);
-    }
-    let fresh = state.groups.is_fresh() && state.head.is_none();
-    if byte == b'^' && fresh && !state.line_begin {
-        state.line_begin = true;
-        state.source.advance(1);
-        return Ok(true);
-    }
-    state.source.advance(1);
-    match read_special(alloc, state, names, options, byte)? {
-        Some(brackets) => state.brackets = brackets,
-        None => {
-            push_byte(alloc, state, byte)?;
-            state.brackets = false;
-        }
-    }
-    Ok(true)
-}
-
-fn run(
-    alloc: Global,
-    state: &mut ReadingState,
-    names: &NamedPatterns,
-    options: PatternOptions,
-) -> Result<(), PatternFault> {
-    for _ in 0..MAX_STEPS {
-        let Some(byte) = state.source.peek() else {
-            return Ok(());
-        };
-        if !step(alloc, state, names, options, byte)? {
-            return Ok(());
-        }
-    }
-    Err(PatternFault::TooLarge)
-}
-
-fn is_newline(tree: &Tree) -> bool {
-    match tree {
-        Tree::OneOf {
-            excluded,
-            fold: _,
-            members,
-        } => !*excluded && members.as_slice() == [SetMember::Range(b'\n', b'\n')].as_slice(),
-        _ => false,
-    }
-}
-
-/// Returns the pattern that was read, with its trailing context.
-fn finish_pattern(
-    alloc: Global,
-    state: ReadingState,
-    window: usize,
-) -> Result<Reading, PatternFault> {
-    let ReadingState {
-        source,
-        mut groups,
-        brackets: _,
-        line_begin,
-        line_end,
-        head,
-    } = state;
-    if !source.is_in_own_text() {
-        return Err(PatternFault::NotClosed);
-    }
-    let last = groups.finish(alloc)?;
-    let newline = is_newline(&last);
-    let (tree, trailing, line_end) = match head {
-        None => (last, false, line_end),
-        Some(head) => (head, !newline, newline),
-    };
-    Ok(Reading {
-        pattern: FlexPattern {
+    Some(PatternReading {
+        pattern: Pattern {
             line_begin,
             line_end,
-            tree,
+            expr,
         },
         trailing,
-        length: source.length(window),
+        length: text.len() - last.text.len(),
     })
 }
 
 /// Reads the pattern at the start of a text, up to a blank that separates or to the line's end. `names` are the definitions.
 ///
-/// Err: the cause if flex has no such pattern, or if it is too long or too deep. The limits are 4,096 bytes, 1,024 parts, 200 open groups, and 128
-/// expanded definitions.
+/// The result is the reading by the grammar of flex (its manual, "Patterns"): an interval applies to the last unit, and a definition's text counts as if
+/// it stood in parentheses in the place of its name, with the exceptions of flex.
+///
+/// Err: the cause if flex has no such pattern. A limit if it is too long: the text has at most 4,096 bytes, the pattern at most 1,024 parts, and at
+/// most 128 definitions are expanded.
 pub fn read_pattern(
     alloc: Global,
     text: &[u8],
     names: &NamedPatterns,
     options: PatternOptions,
-) -> Result<Reading, PatternFault> {
-    let window = front(MAX_FLEX_PATTERN_BYTES, text);
-    let mut state = ReadingState {
-        source: Source::new(alloc, text)?,
-        groups: GroupStack::new(alloc, base_flags(options)),
-        brackets: false,
-        line_begin: false,
-        line_end: false,
-        head: None,
-    };
-    run(alloc, &mut state, names, options)?;
-    if state.source.peek().is_none() && window.len() < text.len() {
+) -> Result<PatternReading, PatternFault>
+    ensures reading { IfOk result
+        (λ r. IsFlexPattern options (names_of names.now) text.now (reading_of r)) }
+    ensures refused { IfErr result (λ fault. is_limit fault ≡ false → (r : FlexReading)
+        → IsFlexPattern options (names_of names.now) text.now r → ⊥) }
+{
+    if text.len() > MAX_FLEX_PATTERN_BYTES {
         return Err(PatternFault::TooLarge);
     }
-    finish_pattern(alloc, state, window.len())
+    let start = PlaceInText {
+        state: PatternState::new(alloc, options),
+        text: Vec::from_slice(alloc, text)?,
+        inserted: 0,
+        parts: MAX_PARTS,
+    };
+    let Alternation { tree, stop, last } = read_alternation(alloc, options, names, start)?;
+    let line_begin = last.state.line_begin;
+    match stop {
+        RowStop::End => match finished(text, line_begin, false, tree, None, &last) {
+            Some(read) => Ok(read),
+            None => Err(PatternFault::NotClosed),
+        },
+        RowStop::Dollar => match finished(text, line_begin, true, tree, None, &last) {
+            Some(read) => Ok(read),
+            None => Err(PatternFault::NotClosed),
+        },
+        RowStop::Slash => {
+            let Alternation {
+                tree: trailing,
+                stop,
+                last: end,
+            } = read_alternation(alloc, options, names, last)?;
+            if !is_end(stop) {
+                return Err(PatternFault::NoForm);
+            }
+            match finished(text, line_begin, false, tree, Some(trailing), &end) {
+                Some(read) => Ok(read),
+                None => Err(PatternFault::NotClosed),
+            }
+        }
+    }
 }
+
+/// States a law: a text begins with at most one pattern, and that has at most one reading.
+pub fn one_flex_reading()
+    ensures { (o : PatternOptions) (names : List ℕ → Option Definition) (text : List ℕ)
+        (r s : FlexReading) → IsFlexPattern o names text r → IsFlexPattern o names text s → r ≡ s }
+{}

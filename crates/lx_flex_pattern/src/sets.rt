@@ -1,72 +1,116 @@
-//! Tests for the bytes in a pattern's sets.
+//! The sets of bytes of flex's patterns (flex's manual, "Patterns").
 
-ghost use Rattle.std.specs.Prelude.{◌≡◌, true};
-ghost use Rattle.std.specs.FinSet as set;
-ghost use Rattle.std.specs.List.{list_any};
+ghost use Rattle.std.specs.Prelude.{◌≡◌, ◌||◌, ℕ, Bool, map, not};
+ghost use Rattle.lx_ere.specs.Bytes.{bytes_where, in_ranges};
+ghost use Rattle.lx_flex_pattern.specs.Lexing.{period_set};
+ghost use Rattle.lx_flex_pattern.specs.Members.{member_of};
 ghost use Rattle.lx_flex_pattern.specs.Sets as specs;
-ghost use Rattle.lx_flex_pattern.specs.Mirror.{HasBytes};
 
-use crate::classes::{class_has, is_between, is_letter, other_case};
-use crate::trees::SetMember;
+use crate::brackets::BracketMember;
 use lx_ere::ByteSet;
 
-fn range_has(fold: bool, low: u8, high: u8, byte: u8) -> bool
-    ensures { result ≡ specs.range_has fold low high byte }
+fn is_upper(byte: u8) -> bool
+    ensures { result ≡ specs.is_upper byte }
 {
-    is_between(low, high, byte)
-        || (fold
-            && (is_letter(low)
-                && (is_letter(high) && is_between(other_case(low), other_case(high), byte))))
+    byte.is_ascii_uppercase()
 }
 
-fn member_has(fold: bool, member: SetMember, byte: u8) -> bool
-    ensures { result ≡ specs.member_has fold member byte }
+fn is_lower(byte: u8) -> bool
+    ensures { result ≡ specs.is_lower byte }
 {
-    match member {
-        SetMember::Range(low, high) => range_has(fold, low, high, byte),
-        SetMember::Class(class) => class_has(fold, class, byte),
-        SetMember::NotClass(class) => !class_has(false, class, byte),
-    }
+    byte.is_ascii_lowercase()
 }
 
-fn some_has(fold: bool, members: &[SetMember], byte: u8) -> bool
-    ensures { result ≡ list_any (λ m. specs.member_has fold m byte) members.now }
+/// Returns true if the byte is a letter.
+pub(crate) fn is_letter(byte: u8) -> bool
+    ensures { result ≡ specs.is_letter byte }
 {
-    for member in members {
-        if member_has(fold, *member, byte) {
-            return true;
-        }
-    }
-    false
+    is_upper(byte) || is_lower(byte)
 }
 
-/// Returns true if the byte is in the set of brackets.
-pub fn set_has(excluded: bool, fold: bool, members: &[SetMember], byte: u8) -> bool
-    ensures { result ≡ specs.set_has excluded fold members.now byte }
+// Returns the letter of the other case. Returns any other byte unchanged.
+fn other_case(byte: u8) -> u8
+    ensures { result ≡ specs.other_case byte }
 {
-    if excluded {
-        !some_has(fold, members, byte)
+    if is_upper(byte) {
+        byte + 32
+    } else if is_lower(byte) {
+        byte - 32
     } else {
-        some_has(fold, members, byte)
+        byte
     }
 }
 
-// Returns true if the byte is in both sets, or in neither.
-fn agrees(found: &ByteSet, excluded: bool, fold: bool, members: &[SetMember], byte: u8) -> bool
-    ensures { result ≡ true
-        → set.contains found.now byte ≡ specs.set_has excluded fold members.now byte }
+// Adds the bytes from one to another, and those of the other case if case is ignored.
+fn insert_range(set: &mut ByteSet, fold: bool, low: u8, high: u8)
+    ensures { (test : ℕ → Bool) → set.old ≡ bytes_where test
+        → set.new ≡ bytes_where (λ b. specs.range_has fold low high b || test b) }
 {
-    found.has(byte) == set_has(excluded, fold, members, byte)
+    set.insert_range(low, high);
+    if fold && is_letter(low) && is_letter(high) {
+        set.insert_range(other_case(low), other_case(high));
+    }
 }
 
-/// Returns true if lx's set has the same bytes as the brackets.
-pub(crate) fn has_bytes(found: &ByteSet, excluded: bool, fold: bool, members: &[SetMember]) -> bool
-    ensures { result ≡ true → HasBytes found.now (specs.set_has excluded fold members.now) }
+/// Returns the set of a byte, and of its other case if case is ignored.
+pub(crate) fn byte_set(fold: bool, byte: u8) -> ByteSet
+    ensures { result ≡ specs.byte_set fold byte }
 {
-    for byte in 0..256u16 {
-        if !agrees(found, excluded, fold, members, byte as u8) {
-            return false;
-        }
+    let mut set = ByteSet::empty();
+    insert_range(&mut set, fold, byte, byte);
+    set
+}
+
+/// Returns the set of a period.
+pub(crate) fn period_set(dot_all: bool) -> ByteSet
+    ensures { result ≡ period_set dot_all }
+{
+    if dot_all {
+        ByteSet::empty().complement()
+    } else {
+        ByteSet::all_but(b'\n')
     }
-    true
+}
+
+// Adds the bytes outside the ranges.
+fn insert_outside(set: ByteSet, ranges: &[(u8, u8)]) -> ByteSet
+    ensures { (test : ℕ → Bool) → set ≡ bytes_where test
+        → result ≡ bytes_where (λ b. not (in_ranges ranges.now b) || test b) }
+{
+    let mut inside = ByteSet::empty();
+    inside.insert_ranges(ranges);
+    set.union(&inside.complement())
+}
+
+// Adds the bytes of a member of brackets.
+fn insert_member(set: ByteSet, fold: bool, member: BracketMember) -> ByteSet
+    ensures { (test : ℕ → Bool) → set ≡ bytes_where test
+        → result ≡ bytes_where (λ b. specs.member_has fold (member_of member) b || test b) }
+{
+    let mut set = set;
+    match member {
+        BracketMember::Range(low, high) => insert_range(&mut set, fold, low, high),
+        BracketMember::Among(ranges) => set.insert_ranges(ranges),
+        BracketMember::Outside(ranges) => return insert_outside(set, ranges),
+        BracketMember::Ambiguous => {}
+    }
+    set
+}
+
+/// Returns the set of brackets with these members.
+pub(crate) fn members_set(fold: bool, members: &[BracketMember]) -> ByteSet
+    ensures { result ≡ specs.members_set fold (map member_of members.now) }
+{
+    let mut set = ByteSet::empty();
+    for member in members {
+        set = insert_member(set, fold, *member);
+    }
+    set
+}
+
+/// Returns the bytes of the first set that the second hasn't.
+pub(crate) fn difference(set: &ByteSet, other: &ByteSet) -> ByteSet
+    ensures { result ≡ specs.difference set.now other.now }
+{
+    set.complement().union(other).complement()
 }

@@ -4,18 +4,16 @@ ghost use Rattle.std.specs.Prelude.{◌≡◌, true, IfOk, IfSome};
 ghost use Rattle.lx_ere.specs.Pattern.{IsPattern, IsSubstitute};
 ghost use Rattle.lx_ere.specs.Regex.{reading_of, regex_of};
 ghost use Rattle.lx_flex_pattern.specs.Translation.{HaveSameTexts, IsReadAs, IsTranslation, IsSubstituteOf};
-ghost use Rattle.lx_flex_pattern.specs.views.{pattern_of, tree_of};
 
 use crate::fault::PatternFault;
 use crate::mirror::mirrors;
 use crate::printing::{print_pattern, printed_tree};
-use crate::trees::{FlexPattern, Tree};
-use lx_ere::EreFault;
 use lx_ere::read::MAX_PATTERN_BYTES;
+use lx_ere::{EreFault, Expr, Pattern};
 use std::alloc::{AllocError, Global};
 
 /// Reads the text as lx does.
-fn read_back(alloc: Global, text: &[u8]) -> Result<Option<lx_ere::Pattern>, AllocError>
+fn read_back(alloc: Global, text: &[u8]) -> Result<Option<Pattern>, AllocError>
     ensures { IfOk result (λ read. IfSome read (λ p. IsPattern text.now (reading_of p))) }
 {
     match lx_ere::read_pattern(alloc, text) {
@@ -26,7 +24,7 @@ fn read_back(alloc: Global, text: &[u8]) -> Result<Option<lx_ere::Pattern>, Allo
 }
 
 /// Reads the text as lx does for a substitute.
-fn read_back_substitute(alloc: Global, text: &[u8]) -> Result<Option<lx_ere::Expr>, AllocError>
+fn read_back_substitute(alloc: Global, text: &[u8]) -> Result<Option<Expr>, AllocError>
     ensures { IfOk result (λ read. IfSome read (λ e. IsSubstitute text.now (regex_of e))) }
 {
     match lx_ere::read_substitute(alloc, text) {
@@ -36,16 +34,16 @@ fn read_back_substitute(alloc: Global, text: &[u8]) -> Result<Option<lx_ere::Exp
     }
 }
 
-/// Returns true only if lx's tree has the same texts as flex's. Compares only trees of the same form.
-pub fn has_same_texts(tree: &Tree, expr: &lx_ere::Expr) -> bool
-    ensures { result ≡ true → HaveSameTexts (tree_of tree.now) (regex_of expr.now) }
+/// Returns true only if the tree that lx read has the same texts as the other one. Compares only trees of the same form.
+pub fn has_same_texts(tree: &Expr, read: &Expr) -> bool
+    ensures { result ≡ true → HaveSameTexts (regex_of tree.now) (regex_of read.now) }
 {
-    mirrors(tree, expr)
+    mirrors(tree, read)
 }
 
-/// Returns true only if lx's pattern has the anchors and the texts of flex's.
-pub fn is_read_as(pattern: &FlexPattern, read: &lx_ere::Pattern) -> bool
-    ensures { result ≡ true → IsReadAs (pattern_of pattern.now) (reading_of read.now) }
+/// Returns true only if the pattern that lx read has the anchors and the texts of the other one.
+pub fn is_read_as(pattern: &Pattern, read: &Pattern) -> bool
+    ensures { result ≡ true → IsReadAs (reading_of pattern.now) (reading_of read.now) }
 {
     if pattern.line_begin != read.line_begin {
         return false;
@@ -53,15 +51,15 @@ pub fn is_read_as(pattern: &FlexPattern, read: &lx_ere::Pattern) -> bool
     if pattern.line_end != read.line_end {
         return false;
     }
-    has_same_texts(&pattern.tree, &read.expr)
+    has_same_texts(&pattern.expr, &read.expr)
 }
 
 /// Translates the pattern to a text that lx reads as a pattern with the same anchors and the same texts.
 ///
-/// Err: [`Cause::TooLarge`] if the text has more bytes than lx accepts. [`Cause::NotRead`] if lx wouldn't read it as the same pattern, which doesn't
+/// Err: [`PatternFault::TooLarge`] if the text has more bytes than lx accepts. [`PatternFault::NotRead`] if lx wouldn't read it as the same pattern, which doesn't
 /// happen to the trees of `read_pattern`.
-pub fn translate(alloc: Global, pattern: &FlexPattern) -> Result<Vec<u8>, PatternFault>
-    ensures { IfOk result (λ text. IsTranslation (pattern_of pattern.now) text.items) }
+pub fn translate(alloc: Global, pattern: &Pattern) -> Result<Vec<u8>, PatternFault>
+    ensures { IfOk result (λ text. IsTranslation (reading_of pattern.now) text.items) }
 {
     let text = print_pattern(alloc, pattern)?;
     if text.len() > MAX_PATTERN_BYTES {
@@ -77,8 +75,8 @@ pub fn translate(alloc: Global, pattern: &FlexPattern) -> Result<Vec<u8>, Patter
 }
 
 /// Translates the tree to a text that lx reads as a substitute with the same texts. Fails like [`translate`].
-pub fn translate_substitute(alloc: Global, tree: &Tree) -> Result<Vec<u8>, PatternFault>
-    ensures { IfOk result (λ text. IsSubstituteOf (tree_of tree.now) text.items) }
+pub fn translate_substitute(alloc: Global, tree: &Expr) -> Result<Vec<u8>, PatternFault>
+    ensures { IfOk result (λ text. IsSubstituteOf (regex_of tree.now) text.items) }
 {
     let text = printed_tree(alloc, tree)?;
     if text.len() > MAX_PATTERN_BYTES {

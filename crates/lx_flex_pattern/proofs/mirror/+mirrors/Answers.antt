@@ -1,10 +1,11 @@
-use Rattle.std.proofs.Common.{refl}
-use Rattle.lx_flex_pattern.specs.Mirror.{sets, thens, ors}
-use Rattle.lx_flex_pattern.proofs.Mirroring.{empty_as, times_as, name_as}
+use Rattle.std.proofs.Common.{refl, sym, ◌∙◌}
+use Rattle.lx_ere.specs.EqualityLaws.{sets_decide}
+use Rattle.lx_flex_pattern.specs.Mirror.{thens, ors}
+use Rattle.lx_flex_pattern.proofs.Mirroring.{empty_as, set_as, times_as, name_as}
 use Rattle.lx_flex_pattern.proofs.mirror.+mirrors.Goals as goal
 
-pub returns-in-Set : goal.returns-in-Set
-returns-in-Set t c = λ h. rw c.in-OneOf.is (rw c.in-Set.is (sets _ _ _ _ (rw c.as_slice.ensures.value at (c.has_bytes.ensures h))))
+pub returns-in-Set-expr : goal.returns-in-Set-expr
+returns-in-Set-expr t c = λ h. rw c.in-Set.is (rw c.in-Set-expr.is (set_as _ _ ((sets_decide c.in-Set.set c.in-Set-expr.found).0 (sym c.eq.ensures ∙ h))))
 
 pub returns-else-not-mirrors : goal.returns-else-not-mirrors
 returns-else-not-mirrors t c = λ h.
@@ -19,7 +20,7 @@ returns-else-not-mirrors-2 t c = λ h.
     (rw c.deref-in-Or-expr-3.ensures at (rw c.deref-in-Or-expr-4.ensures at (c.mirrors-in-Or-expr-2.ensures h)))))
 
 pub returns-else-low-ne0 : goal.returns-else-low-ne0
-returns-else-low-ne0 t c = λ h. rw c.in-Empty.is (rw c.in-Times-expr.is (empty_as _ _ _ c.if-low-ne0.false (c.same_high.ensures h)))
+returns-else-low-ne0 t c = λ h. rw c.in-Nil.is (rw c.in-Times-expr.is (empty_as _ _ _ c.if-low-ne0.false (c.same_high.ensures h)))
 
 pub returns-else-not-same_high : goal.returns-else-not-same_high
 returns-else-not-same_high t c = λ h.
@@ -28,4 +29,4 @@ returns-else-not-same_high t c = λ h.
 
 pub returns-in-Name-expr : goal.returns-in-Name-expr
 returns-in-Name-expr t c = λ h.
-    rw c.in-Name.is (rw c.in-Name-expr.is (name_as _ _ (rw c.as_slice-in-Name-expr.ensures.value at (rw c.as_slice-in-Name-expr-2.ensures.value at (c.same_names.ensures h)))))
+    rw c.in-Name.is (rw c.in-Name-expr.is (name_as _ _ (rw c.as_slice.ensures.value at (rw c.as_slice-in-Name-expr.ensures.value at (c.same_names.ensures h)))))
