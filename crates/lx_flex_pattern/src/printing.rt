@@ -97,7 +97,9 @@ fn push_range(text: &mut Vec<u8>, low: u8, high: u8) -> Result<(), AllocError> {
     if low == high {
         return Ok(());
     }
-    push(text, b"-")?;
+    if high.saturating_sub(low) > 1 {
+        push(text, b"-")?;
+    }
     push_point(text, high)
 }
 
