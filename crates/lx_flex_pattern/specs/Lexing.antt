@@ -25,17 +25,18 @@ pub data Pending : Type 0 where
   with : set.FinSet nat_cmp → Pending
 
 -- The flags of the innermost group, and those of the groups around it, the innermost first; the brackets that aren't a unit yet; true if nothing was read;
--- true if a `^` was read.
+-- true if a `^` was read; true after the `/` of a trailing context.
 pub record State : Type 0 where
   pub flags : Flags
   pub outer : List Flags
   pub pending : Pending
   pub fresh : Bool
   pub line_begin : Bool
+  pub in_context : Bool
 
 -- nothing was read yet
 abbrev pub initial : PatternOptions → State
-initial o = record { flags = record { fold = o.fold; dot_all = false; extended = false }; outer = []; pending = nothing; fresh = true; line_begin = false }
+initial o = record { flags = record { fold = o.fold; dot_all = false; extended = false }; outer = []; pending = nothing; fresh = true; line_begin = false; in_context = false }
 
 -- the next part
 pub data Piece : Type 0 where
@@ -66,19 +67,19 @@ behind (Some ls) make = make ls
 
 -- nothing waits
 abbrev pub settled : State → State
-settled st = record { flags = st.flags; outer = st.outer; pending = nothing; fresh = st.fresh; line_begin = st.line_begin }
+settled st = record { flags = st.flags; outer = st.outer; pending = nothing; fresh = st.fresh; line_begin = st.line_begin; in_context = st.in_context }
 
 -- something was read, and this waits
 abbrev pub waits : State → Pending → State
-waits st pending = record { flags = st.flags; outer = st.outer; pending = pending; fresh = false; line_begin = st.line_begin }
+waits st pending = record { flags = st.flags; outer = st.outer; pending = pending; fresh = false; line_begin = st.line_begin; in_context = st.in_context }
 
 -- the group with these flags is the innermost one
 abbrev pub in_group : State → Flags → List Flags → State
-in_group st flags outer = record { flags = flags; outer = outer; pending = nothing; fresh = false; line_begin = st.line_begin }
+in_group st flags outer = record { flags = flags; outer = outer; pending = nothing; fresh = false; line_begin = st.line_begin; in_context = st.in_context }
 
 -- a `^` was read
 abbrev pub at_line_begin : State → State
-at_line_begin st = record { flags = st.flags; outer = st.outer; pending = st.pending; fresh = false; line_begin = true }
+at_line_begin st = record { flags = st.flags; outer = st.outer; pending = st.pending; fresh = false; line_begin = true; in_context = st.in_context }
 
 abbrev pub takes : State → List Lexeme → List ℕ → Piece
 takes st ls rest = behind (flushed st.pending) (λ ms. goes (ms ++ ls) (waits st nothing) rest)
@@ -191,14 +192,23 @@ is_byte c (Some d) = nat_eq d c
 abbrev pub ends_in_dollar : List ℕ → Bool
 ends_in_dollar text = is_byte 36 (slice_get text (length text - 1))
 
--- A definition's text is read as if it stood in parentheses, unless it begins with `^` or ends in `$`, or names are bare.
-abbrev pub inserted_text : PatternOptions → List ℕ → List ℕ
-inserted_text o text = if o.bare_names || (begins_with 94 text || ends_in_dollar text) then text else 40 ∷ (text ++ 41 ∷ [])
+-- white space in the C locale is next
+abbrev pub starts_space : List ℕ → Bool
+starts_space [] = false
+starts_space (c ∷ text) = is_between 9 13 c || nat_eq c 32
+
+-- A definition's name that ends a trailing context. flex reads its text without parentheses.
+abbrev pub ends_context : State → List ℕ → Bool
+ends_context st rest = st.in_context && (not st.flags.extended && starts_space rest)
+
+-- A definition's text is read as if it stood in parentheses, unless it begins with `^` or ends in `$`, names are bare, or it ends a trailing context.
+abbrev pub inserted_text : PatternOptions → Bool → List ℕ → List ℕ
+inserted_text o last text = if o.bare_names || (begins_with 94 text || (ends_in_dollar text || last)) then text else 40 ∷ (text ++ 41 ∷ [])
 
 abbrev pub insertion : PatternOptions → State → List ℕ → List ℕ → Piece
 insertion o st text rest =
     if begins_with 94 text && not st.fresh then wrong
-    else behind (flushed st.pending) (λ ms. inserts ms (settled st) (inserted_text o text) rest)
+    else behind (flushed st.pending) (λ ms. inserts ms (settled st) (inserted_text o (ends_context st rest) text) rest)
 
 abbrev pub name_or_text : PatternOptions → State → Option (List ℕ) → List ℕ → List ℕ → Piece
 name_or_text o st None text rest = insertion o st text rest
@@ -228,8 +238,12 @@ brace_piece o names st text =
 abbrev pub is_outermost : State → Bool
 is_outermost st = nat_eq (length st.outer) 0
 
+-- the `/` before a trailing context
+abbrev pub after_slash : State → State
+after_slash st = record { flags = st.flags; outer = st.outer; pending = nothing; fresh = false; line_begin = st.line_begin; in_context = true }
+
 abbrev pub slash_piece : State → List ℕ → Piece
-slash_piece st rest = if is_outermost st then behind (flushed st.pending) (λ ms. slash ms (waits st nothing) rest) else wrong
+slash_piece st rest = if is_outermost st then behind (flushed st.pending) (λ ms. slash ms (after_slash st) rest) else wrong
 
 -- the part that begins with this byte
 abbrev pub special_piece : PatternOptions → (List ℕ → Option Definition) → State → ℕ → List ℕ → Piece

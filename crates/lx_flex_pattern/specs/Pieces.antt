@@ -28,7 +28,7 @@ pending_of (waiting.Without b) = without b.set
 pending_of (waiting.With b) = with b.set
 
 abbrev pub state_of : PatternState → State
-state_of s = record { flags = s.flags; outer = reverse s.outer.items; pending = pending_of s.pending; fresh = s.fresh; line_begin = s.line_begin }
+state_of s = record { flags = s.flags; outer = reverse s.outer.items; pending = pending_of s.pending; fresh = s.fresh; line_begin = s.line_begin; in_context = s.in_context }
 
 abbrev pub piece_of : code_piece.Piece → Piece
 piece_of (part.Goes ls s rest) = goes (map lexeme_of ls.items) (state_of s) rest.now

@@ -46,6 +46,8 @@ pub(crate) struct PatternState {
     pub(crate) fresh: bool,
     /// True if a `^` was read.
     pub(crate) line_begin: bool,
+    /// True after the `/` of a trailing context.
+    in_context: bool,
 }
 
 /// The next part of a pattern. All but the last have lexemes, the state after them and the text after them.
@@ -79,6 +81,7 @@ impl PatternState {
             pending: Pending::Nothing,
             fresh: true,
             line_begin: false,
+            in_context: false,
         }
     }
 
@@ -92,6 +95,7 @@ impl PatternState {
             pending: _pending,
             fresh: _fresh,
             line_begin,
+            in_context,
         } = self;
         PatternState {
             flags,
@@ -99,6 +103,7 @@ impl PatternState {
             pending,
             fresh: false,
             line_begin,
+            in_context,
         }
     }
 
@@ -112,6 +117,7 @@ impl PatternState {
             pending: _pending,
             fresh,
             line_begin,
+            in_context,
         } = self;
         PatternState {
             flags,
@@ -119,6 +125,7 @@ impl PatternState {
             pending: Pending::Nothing,
             fresh,
             line_begin,
+            in_context,
         }
     }
 
@@ -132,6 +139,7 @@ impl PatternState {
             pending,
             fresh: _fresh,
             line_begin: _line_begin,
+            in_context,
         } = self;
         PatternState {
             flags,
@@ -139,6 +147,7 @@ impl PatternState {
             pending,
             fresh: false,
             line_begin: true,
+            in_context,
         }
     }
 
@@ -153,6 +162,7 @@ impl PatternState {
             pending,
             fresh,
             line_begin,
+            in_context,
         } = self;
         let state = PatternState {
             flags,
@@ -160,8 +170,38 @@ impl PatternState {
             pending: Pending::Nothing,
             fresh,
             line_begin,
+            in_context,
         };
         (state, pending)
+    }
+
+    // Returns the state after the `/` of a trailing context.
+    fn after_slash(self) -> PatternState
+        ensures { state_of result ≡ specs.after_slash (state_of self) }
+    {
+        let PatternState {
+            flags,
+            outer,
+            pending: _pending,
+            fresh: _fresh,
+            line_begin,
+            in_context: _in_context,
+        } = self;
+        PatternState {
+            flags,
+            outer,
+            pending: Pending::Nothing,
+            fresh: false,
+            line_begin,
+            in_context: true,
+        }
+    }
+
+    // Returns true if a name that this text follows ends a trailing context.
+    fn ends_context(&self, behind: &[u8]) -> bool
+        ensures { result ≡ specs.ends_context (state_of self.now) behind.now }
+    {
+        self.in_context && !self.flags.extended && starts_space(behind)
     }
 
     // Returns true if no group is open.
@@ -481,6 +521,7 @@ fn opens<'t>(
         pending: _pending,
         fresh: _fresh,
         line_begin,
+        in_context,
     } = state;
     outer.push(around)?;
     let inner = PatternState {
@@ -489,6 +530,7 @@ fn opens<'t>(
         pending: Pending::Nothing,
         fresh: false,
         line_begin,
+        in_context,
     };
     Ok(Piece::Goes(lexemes, inner, behind))
 }
@@ -531,6 +573,7 @@ fn closes<'t>(alloc: Global, state: PatternState, behind: &'t [u8]) -> Result<Pi
         pending: _pending,
         fresh: _fresh,
         line_begin,
+        in_context,
     } = state;
     let Some(flags) = outer.pop() else {
         return Ok(Piece::Wrong(PatternFault::NoForm));
@@ -545,6 +588,7 @@ fn closes<'t>(alloc: Global, state: PatternState, behind: &'t [u8]) -> Result<Pi
         pending: Pending::Nothing,
         fresh: false,
         line_begin,
+        in_context,
     };
     Ok(Piece::Goes(lexemes, around, behind))
 }
@@ -566,11 +610,26 @@ fn ends_in_dollar(text: &[u8]) -> bool
     }
 }
 
-// Returns a definition's text as it is read in the place of its name.
-fn inserted_text(alloc: Global, options: PatternOptions, text: &[u8]) -> Result<Vec<u8>, AllocError>
-    ensures { IfOk result (λ bytes. bytes.items ≡ specs.inserted_text options text.now) }
+// Returns true if white space is next.
+fn starts_space(text: &[u8]) -> bool
+    ensures { result ≡ specs.starts_space text.now }
 {
-    if options.bare_names || begins_with(b'^', text) || ends_in_dollar(text) {
+    match text {
+        [first, ..] => (9 <= *first && *first <= 13) || *first == b' ',
+        [] => false,
+    }
+}
+
+// Returns a definition's text as it is read in the place of its name. `last` is true if the name ends a trailing context.
+fn inserted_text(
+    alloc: Global,
+    options: PatternOptions,
+    last: bool,
+    text: &[u8],
+) -> Result<Vec<u8>, AllocError>
+    ensures { IfOk result (λ bytes. bytes.items ≡ specs.inserted_text options last text.now) }
+{
+    if options.bare_names || begins_with(b'^', text) || ends_in_dollar(text) || last {
         return Vec::from_slice(alloc, text);
     }
     let mut bytes = Vec::new(alloc);
@@ -594,11 +653,12 @@ fn insertion<'t>(
     if begins_with(b'^', text) && !state.fresh {
         return Ok(Piece::Wrong(PatternFault::NoForm));
     }
+    let last = state.ends_context(behind);
     let (state, pending) = state.take_pending();
     let Some(lexemes) = flushed(alloc, pending)? else {
         return Ok(Piece::Wrong(PatternFault::NoForm));
     };
-    let front = inserted_text(alloc, options, text)?;
+    let front = inserted_text(alloc, options, last, text)?;
     Ok(Piece::Inserts(lexemes, state, front, behind))
 }
 
@@ -712,7 +772,7 @@ fn slash_piece<'t>(
     let Some(lexemes) = flushed(alloc, pending)? else {
         return Ok(Piece::Wrong(PatternFault::NoForm));
     };
-    Ok(Piece::Slash(lexemes, state.waits(Pending::Nothing), behind))
+    Ok(Piece::Slash(lexemes, state.after_slash(), behind))
 }
 
 // Reads the part that begins with this byte, which is no end of the pattern. The text follows it.
