@@ -204,8 +204,8 @@ impl PatternState {
         self.in_context && !self.flags.extended && starts_space(behind)
     }
 
-    // Returns true if no group is open.
-    fn is_outermost(&self) -> bool
+    /// Returns true if no group is open.
+    pub(crate) fn is_outermost(&self) -> bool
         ensures { result ≡ specs.is_outermost (state_of self.now) }
     {
         self.outer.is_empty()
@@ -310,6 +310,21 @@ fn string_lexemes(alloc: Global, fold: bool, bytes: &[u8]) -> Result<Vec<Lexeme>
     Ok(lexemes)
 }
 
+// Returns the fault of a text that flex doesn't read as a string. If the string is closed, a number in it is too large.
+fn string_fault(text: &[u8]) -> PatternFault {
+    let mut escaped = false;
+    for byte in text {
+        if *byte == b'\n' {
+            break;
+        }
+        if *byte == b'"' && !escaped {
+            return PatternFault::LargeEscape;
+        }
+        escaped = *byte == b'\\' && !escaped;
+    }
+    PatternFault::NotClosed
+}
+
 // Reads a quoted string, starting after its opening quote.
 fn string_piece<'t>(
     alloc: Global,
@@ -320,7 +335,7 @@ fn string_piece<'t>(
         ≡ specs.string_piece (state_of state) (spelling.string_at text.now)) }
 {
     let Some((bytes, behind)) = string_at(alloc, text)? else {
-        return Ok(Piece::Wrong(PatternFault::NotClosed));
+        return Ok(Piece::Wrong(string_fault(text)));
     };
     let lexemes = string_lexemes(alloc, state.flags.fold, bytes.as_slice())?;
     takes_all(alloc, state, lexemes, behind)

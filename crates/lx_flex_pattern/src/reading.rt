@@ -293,6 +293,15 @@ fn read_row(
     Err(PatternFault::TooLarge)
 }
 
+// Returns the fault of a row that isn't an alternation.
+fn unfinished(state: &PatternState) -> PatternFault {
+    if state.is_outermost() {
+        PatternFault::NoForm
+    } else {
+        PatternFault::NotClosed
+    }
+}
+
 // Reads an alternation, up to its stop.
 fn read_alternation(
     alloc: Global,
@@ -315,7 +324,7 @@ fn read_alternation(
             }
             RowEnd::Stops(last_groups, stop, last) => {
                 let Some(tree) = finish(alloc, last_groups)? else {
-                    return Err(PatternFault::NotClosed);
+                    return Err(unfinished(&last.state));
                 };
                 return Ok(Alternation { tree, stop, last });
             }
