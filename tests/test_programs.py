@@ -2,6 +2,8 @@
 
 What is in C is built with gcc and with clang. A warning of a compiler is a failure. Each program is built once more after `touch *.l`, which may change no
 file of the example: make's own rules would run flex over a .l that is newer than a .c of the same name.
+
+The programs of lex-* have files for flex, which `lx flex` takes, or the command that the environment names: `LEX=flex ./test programs`.
 """
 import os
 import shutil
@@ -21,6 +23,10 @@ TARGETS = [
     ("includes", "check", ["cc"]),
     ("ini-to-json", "check", []),
     ("json-check", "check", ["cc", "bison"]),
+    ("lex-calculator", "check", ["cc", "bison"]),
+    ("lex-count", "check", ["cc"]),
+    ("lex-includes", "check", ["cc"]),
+    ("lex-threads", "check", ["cc"]),
     ("log-report", "check-c", ["cc"]),
     ("log-report", "check-python", []),
     ("log-report", "check-rust", ["rustc"]),
@@ -44,7 +50,8 @@ class Programs(Case):
         self.top = self.make_folder()
         for name in ("drivers", "examples"):
             shutil.copytree(TOP / name, self.top / name)
-        self.words = [f"LX={support.built()}", f"PYTHON={sys.executable}"]
+        command = os.environ.get("LEX") or f"{support.built()} flex"
+        self.words = [f"LX={support.built()}", f"LEX={command}", f"PYTHON={sys.executable}"]
 
     def builds_of(self, name, target, tools):
         """Returns the words of make for each way to build a program, none if a tool is missing."""
