@@ -4,12 +4,15 @@
 #
 #     make install PREFIX=/usr/local DESTDIR=package
 #
-# The program is the one that ./lx starts, or another one by PROGRAM=PATH.
+# The program is the one that ./lx starts, or another one by PROGRAM=PATH. With a C compiler, CC, libl.a is compiled and installed too, and libfl.a is a
+# link to it where no other file has this name.
 
 PREFIX = /usr/local
 DESTDIR =
 PROGRAM = bin/lx
+AR = ar
 BIN = $(DESTDIR)$(PREFIX)/bin
+LIB = $(DESTDIR)$(PREFIX)/lib
 MAN = $(DESTDIR)$(PREFIX)/share/man/man1
 DATA = $(DESTDIR)$(PREFIX)/share/lx
 DOC = $(DESTDIR)$(PREFIX)/share/doc/lx
@@ -60,7 +63,15 @@ install: $(PROGRAM) ## copies the program and what goes with it below PREFIX
 	mkdir -p "$(BIN)" "$(MAN)" "$(DATA)" "$(DOC)" "$(DESTDIR)$(BASH)" "$(DESTDIR)$(ZSH)" "$(DESTDIR)$(FISH)"
 	install -m 755 "$(PROGRAM)" "$(BIN)/lx"
 	install -m 644 docs/lx.1 "$(MAN)/lx.1"
-	install -m 644 drivers/lx.h drivers/lx.py drivers/lx.rs drivers/lx_c.py "$(DATA)"
+	install -m 644 drivers/lx.h drivers/lx.py drivers/lx.rs drivers/lx_c.py drivers/libl.c "$(DATA)"
+	if command -v $(firstword $(CC)) >/dev/null && command -v $(firstword $(AR)) >/dev/null; then \
+	    folder=$$(mktemp -d) && trap 'rm -rf "$$folder"' EXIT && \
+	    $(CC) -O2 -c -DLIBL_MAIN -o "$$folder/main.o" drivers/libl.c && \
+	    $(CC) -O2 -c -DLIBL_YYWRAP -o "$$folder/yywrap.o" drivers/libl.c && \
+	    $(AR) rcsD "$$folder/libl.a" "$$folder/main.o" "$$folder/yywrap.o" && \
+	    mkdir -p "$(LIB)" && install -m 644 "$$folder/libl.a" "$(LIB)/libl.a" && \
+	    { test -e "$(LIB)/libfl.a" || ln -s libl.a "$(LIB)/libfl.a"; }; \
+	fi
 	install -m 644 completions/lx.bash "$(DESTDIR)$(BASH)/lx"
 	install -m 644 completions/_lx "$(DESTDIR)$(ZSH)/_lx"
 	install -m 644 completions/lx.fish "$(DESTDIR)$(FISH)/lx.fish"
@@ -69,6 +80,8 @@ install: $(PROGRAM) ## copies the program and what goes with it below PREFIX
 uninstall: ## removes what install copied
 	rm -f "$(BIN)/lx" "$(MAN)/lx.1" "$(DESTDIR)$(BASH)/lx" "$(DESTDIR)$(ZSH)/_lx" "$(DESTDIR)$(FISH)/lx.fish"
 	rm -rf "$(DATA)" "$(DOC)"
+	rm -f "$(LIB)/libl.a"
+	if test "$$(readlink "$(LIB)/libfl.a")" = libl.a; then rm -f "$(LIB)/libfl.a"; fi
 
 clean-proofs: ## removes the kept proofs of crates, which the next build makes anew; what is built stays in bin/
 	rm -rf crates/*/out
