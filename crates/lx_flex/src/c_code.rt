@@ -1,6 +1,6 @@
 //! Finds the end of C text in a file (flex's manual, "Format of the Input File", "Actions").
 
-use crate::cursor::{TextCursor, between, front, place_of, skip};
+use crate::cursor::{TextCursor, TextRange, between, front, place_of, skip};
 use crate::report::{ImportCause, ReadFault, stop};
 
 /// The construct of C text that a byte is in.
@@ -119,51 +119,65 @@ fn action_length(text: &[u8]) -> Option<usize> {
 }
 
 /// Takes the C text of an action, from here to its end. The next line follows.
-pub(crate) fn take_action<'a>(cursor: &mut TextCursor<'a>) -> Result<&'a [u8], ReadFault> {
-    let rest = cursor.rest();
-    let Some(length) = action_length(rest) else {
-        return stop(cursor.line, ImportCause::NotClosed);
+pub(crate) fn take_action(cursor: &mut TextCursor) -> Result<TextRange, ReadFault> {
+    let start = *cursor;
+    let Some(length) = action_length(cursor.rest()) else {
+        return stop(cursor.place(), ImportCause::NotClosed);
     };
-    cursor.advance(length.saturating_add(1));
-    Ok(front(length, rest))
+    cursor.advance(length);
+    let code = cursor.since(start);
+    cursor.advance(1);
+    Ok(code)
 }
 
 /// Takes the C text up to `%}`, starting after `%{`. The line after that of `%}` follows.
-pub(crate) fn take_block<'a>(cursor: &mut TextCursor<'a>) -> Result<&'a [u8], ReadFault> {
-    let rest = cursor.rest();
-    let Some(length) = place_of(rest, b"%}") else {
-        return stop(cursor.line, ImportCause::NotClosed);
+pub(crate) fn take_block(cursor: &mut TextCursor) -> Result<TextRange, ReadFault> {
+    let start = *cursor;
+    let Some(length) = place_of(cursor.rest(), b"%}") else {
+        return stop(cursor.place(), ImportCause::NotClosed);
     };
     cursor.advance(length);
+    let code = cursor.since(start);
     cursor.skip_line();
-    Ok(front(length, rest))
+    Ok(code)
 }
 
-/// Skips to the line after the one that begins with `%}`.
-pub(crate) fn skip_block(cursor: &mut TextCursor) -> Result<(), ReadFault> {
-    let line = cursor.line;
+/// Takes the lines between one that begins with `%{` and one that begins with `%}`. The line after these follows.
+pub(crate) fn take_lines(cursor: &mut TextCursor) -> Result<TextRange, ReadFault> {
+    let place = cursor.place();
     cursor.skip_line();
+    let start = *cursor;
     for _ in 0..cursor.text.len() {
         if cursor.is_at_end() {
             break;
         }
-        let last = cursor.begins_with(b"%}");
-        cursor.skip_line();
-        if last {
-            return Ok(());
+        if cursor.begins_with(b"%}") {
+            let code = cursor.since(start);
+            cursor.skip_line();
+            return Ok(code);
         }
+        cursor.skip_line();
     }
-    stop(line, ImportCause::NotClosed)
+    stop(place, ImportCause::NotClosed)
 }
 
-/// Skips to the line after the one with the end of a comment, starting after its `/*`.
-pub(crate) fn skip_comment(cursor: &mut TextCursor) -> Result<(), ReadFault> {
+/// Takes one line with its end.
+pub(crate) fn take_line(cursor: &mut TextCursor) -> TextRange {
+    let start = *cursor;
+    cursor.skip_line();
+    cursor.since(start)
+}
+
+/// Takes a comment, starting at its `/*`, and the rest of the line on which it ends.
+pub(crate) fn take_comment(cursor: &mut TextCursor) -> Result<TextRange, ReadFault> {
+    let start = *cursor;
+    cursor.advance(2);
     let Some(length) = place_of(cursor.rest(), b"*/") else {
-        return stop(cursor.line, ImportCause::NotClosed);
+        return stop(start.place(), ImportCause::NotClosed);
     };
     cursor.advance(length.saturating_add(2));
     cursor.skip_line();
-    Ok(())
+    Ok(cursor.since(start))
 }
 
 /// Returns the number of bytes up to and including the brace that closes the first one.
@@ -184,14 +198,22 @@ fn braced_length(text: &[u8]) -> Option<usize> {
     None
 }
 
-/// Skips to the line after the one with the brace that closes `%top{`.
-pub(crate) fn skip_braces(cursor: &mut TextCursor) -> Result<(), ReadFault> {
-    let Some(length) = braced_length(cursor.rest()) else {
-        return stop(cursor.line, ImportCause::NotClosed);
+/// Takes the text between the brace of `%top{` and the one that closes it. The line after that follows.
+pub(crate) fn take_braces(cursor: &mut TextCursor) -> Result<TextRange, ReadFault> {
+    let place = cursor.place();
+    let Some(open) = place_of(cursor.line_rest(), b"{") else {
+        return stop(place, ImportCause::BadDefinitionLine);
     };
-    cursor.advance(length);
+    cursor.advance(open);
+    let Some(length) = braced_length(cursor.rest()) else {
+        return stop(place, ImportCause::NotClosed);
+    };
+    cursor.advance(1);
+    let start = *cursor;
+    cursor.advance(length.saturating_sub(2));
+    let code = cursor.since(start);
     cursor.skip_line();
-    Ok(())
+    Ok(code)
 }
 
 /// Strips white space at the start and at the end, including carriage returns.

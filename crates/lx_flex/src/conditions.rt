@@ -4,13 +4,13 @@ use crate::cursor::front;
 use std::alloc::{AllocError, Global};
 
 /// A start condition.
-#[derive(Drop)]
-pub(crate) struct FlexCondition {
+#[derive(Debug, Drop)]
+pub struct FlexCondition {
     /// Name in flex, which may have hyphens.
-    pub(crate) name: Vec<u8>,
+    pub name: Vec<u8>,
     /// Name in lx.
-    pub(crate) lx_name: Vec<u8>,
-    pub(crate) exclusive: bool,
+    pub lx_name: Vec<u8>,
+    pub exclusive: bool,
 }
 
 /// Returns the number of the condition with this name. `INITIAL` and `0` are the first one.

@@ -68,15 +68,77 @@ pub(crate) fn place_of(text: &[u8], part: &[u8]) -> Option<usize> {
     None
 }
 
+/// A line and a column of a file, both counted from 1. Columns count bytes. Both are 0 if the whole file is meant.
+#[derive(Debug, Clone, Copy, PartialEq, Eq)]
+pub struct FilePlace {
+    pub line: u32,
+    pub column: u32,
+}
+
+impl FilePlace {
+    /// The place that means the whole file.
+    pub const WHOLE: FilePlace = FilePlace { line: 0, column: 0 };
+
+    /// Returns the start of a line.
+    pub(crate) fn line_start(line: u32) -> FilePlace {
+        FilePlace { line, column: 1 }
+    }
+}
+
+/// A part of a file's text, by the positions of its bytes.
+#[derive(Debug, Clone, Copy, PartialEq, Eq)]
+pub struct TextRange {
+    pub from: usize,
+    pub to: usize,
+    /// Line on which the part begins.
+    pub line: u32,
+}
+
+impl TextRange {
+    /// Returns the bytes of the part.
+    pub fn of<'a>(&self, text: &'a [u8]) -> &'a [u8] {
+        between(self.from, self.to, text)
+    }
+}
+
 /// A position in a text, with its line, counted from 1.
 #[derive(Clone, Copy)]
 pub(crate) struct TextCursor<'a> {
     pub(crate) text: &'a [u8],
     pub(crate) at: usize,
     pub(crate) line: u32,
+    /// Position at which the line begins.
+    line_start: usize,
 }
 
 impl<'a> TextCursor<'a> {
+    pub(crate) fn new(text: &'a [u8]) -> TextCursor<'a> {
+        TextCursor {
+            text,
+            at: 0,
+            line: 1,
+            line_start: 0,
+        }
+    }
+
+    /// Returns the line and the column.
+    pub(crate) fn place(&self) -> FilePlace {
+        let before = self.at.saturating_sub(self.line_start);
+        FilePlace {
+            line: self.line,
+            column: u32::try_from(before).unwrap_or(u32::MAX).saturating_add(1),
+        }
+    }
+
+    /// Returns the part of the text from an earlier cursor to here.
+    pub(crate) fn since(&self, start: TextCursor) -> TextRange {
+        TextRange {
+            from: start.at,
+            to: self.at,
+            line: start.line,
+        }
+    }
+
     /// Returns the rest of the text.
     pub(crate) fn rest(&self) -> &'a [u8] {
         skip(self.at, self.text)
@@ -111,9 +173,12 @@ impl<'a> TextCursor<'a> {
 
     /// Advances by `n` bytes.
     pub(crate) fn advance(&mut self, n: usize) {
+        let mut at = self.at;
         for byte in front(n, self.rest()) {
+            at = at.saturating_add(1);
             if *byte == b'\n' {
                 self.line = self.line.saturating_add(1);
+                self.line_start = at;
             }
         }
         self.at = self.at.saturating_add(n).min(self.text.len());

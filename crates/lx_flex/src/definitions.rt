@@ -1,33 +1,39 @@
 //! The definitions section (flex's manual, "Format of the Definitions Section").
 
-use crate::c_code::{skip_block, skip_braces, skip_comment};
+use crate::c_code::{take_braces, take_comment, take_line, take_lines};
 use crate::conditions::{FlexCondition, name_at, new_name, place_of};
-use crate::cursor::{TextCursor, front, is_blank, skip, trim_end};
-use crate::options::read_options;
+use crate::cursor::{FilePlace, TextCursor, TextRange, blank_run, front, is_blank, skip, trim_end};
+use crate::options::{FlexOptions, read_options};
 use crate::report::{ImportCause, ReadFault, Reports, stop};
-use lx_flex_pattern::PatternOptions;
 use lx_rules::limits::{MAX_DEFINITIONS, MAX_START_CONDITIONS};
 use std::alloc::{AllocError, Global};
 
 /// A definition, as it is written.
-#[derive(Drop)]
-pub(crate) struct FlexDefinition {
-    pub(crate) line: u32,
-    pub(crate) name: Vec<u8>,
-    pub(crate) text: Vec<u8>,
+#[derive(Debug, Drop)]
+pub struct FlexDefinition {
+    pub place: FilePlace,
+    pub name: Vec<u8>,
+    pub text: Vec<u8>,
 }
 
 /// The declarations of the definitions section.
-#[derive(Drop)]
-pub(crate) struct Declared {
+#[derive(Debug, Drop)]
+pub struct Declared {
     /// `INITIAL`, and then the conditions in the order of their declaration.
-    pub(crate) conditions: Vec<FlexCondition>,
-    pub(crate) definitions: Vec<FlexDefinition>,
-    pub(crate) options: PatternOptions,
+    pub conditions: Vec<FlexCondition>,
+    pub definitions: Vec<FlexDefinition>,
+    pub options: FlexOptions,
+    /// C text for the scanner's first lines, of `%top`.
+    pub top: Vec<TextRange>,
+    /// C text for its declarations: blocks, indented lines and comments.
+    pub code: Vec<TextRange>,
 }
 
-/// Returns the declarations before any line is read: only `INITIAL`.
-pub(crate) fn nothing_declared(alloc: Global) -> Result<Declared, AllocError> {
+/// Returns the declarations before any line is read: only `INITIAL`, with the options of the command line.
+pub(crate) fn nothing_declared(
+    alloc: Global,
+    options: FlexOptions,
+) -> Result<Declared, AllocError> {
     let mut conditions = Vec::new(alloc);
     conditions.push(FlexCondition {
         name: Vec::from_slice(alloc, b"INITIAL")?,
@@ -37,11 +43,9 @@ pub(crate) fn nothing_declared(alloc: Global) -> Result<Declared, AllocError> {
     Ok(Declared {
         conditions,
         definitions: Vec::new(alloc),
-        options: PatternOptions {
-            fold: false,
-            posix: false,
-            bare_names: false,
-        },
+        options,
+        top: Vec::new(alloc),
+        code: Vec::new(alloc),
     })
 }
 
@@ -62,16 +66,16 @@ fn add_condition(
     alloc: Global,
     declared: &mut Declared,
     reports: &mut Reports,
-    line: u32,
+    place: FilePlace,
     name: &[u8],
     exclusive: bool,
 ) -> Result<(), ReadFault> {
     if is_condition(declared, name) {
-        reports.add(line, ImportCause::Twice, true)?;
+        reports.add(place, ImportCause::Twice, true)?;
         return Ok(());
     }
     if declared.conditions.len() >= MAX_START_CONDITIONS {
-        return stop(line, ImportCause::TooMany);
+        return stop(place, ImportCause::TooMany);
     }
     let lx_name = new_name(alloc, declared.conditions.as_slice(), name)?;
     declared.conditions.push(FlexCondition {
@@ -90,20 +94,19 @@ fn read_conditions(
     reports: &mut Reports,
     exclusive: bool,
 ) -> Result<(), ReadFault> {
-    let line = cursor.line_rest();
-    let mut rest = line;
-    for _ in line {
-        rest = skip(crate::cursor::blank_run(rest), rest);
+    for _ in cursor.line_rest() {
+        cursor.skip_blanks();
+        let rest = cursor.line_rest();
         if rest.is_empty() {
             break;
         }
         let name = name_at(rest);
         if name.is_empty() {
-            reports.add(cursor.line, ImportCause::BadDefinitionLine, true)?;
+            reports.add(cursor.place(), ImportCause::BadDefinitionLine, true)?;
             break;
         }
-        add_condition(alloc, declared, reports, cursor.line, name, exclusive)?;
-        rest = skip(name.len(), rest);
+        add_condition(alloc, declared, reports, cursor.place(), name, exclusive)?;
+        cursor.advance(name.len());
     }
     cursor.skip_line();
     Ok(())
@@ -116,24 +119,37 @@ fn read_definition(
     declared: &mut Declared,
     reports: &mut Reports,
 ) -> Result<(), ReadFault> {
+    let place = cursor.place();
     let line = cursor.line_rest();
     let name = name_at(line);
     let rest = skip(name.len(), line);
-    let text = trim_end(skip(crate::cursor::blank_run(rest), rest));
+    let text = trim_end(skip(blank_run(rest), rest));
     if name.is_empty() || text.is_empty() {
-        reports.add(cursor.line, ImportCause::BadDefinitionLine, true)?;
+        reports.add(place, ImportCause::BadDefinitionLine, true)?;
     } else if is_definition(declared, name) {
-        reports.add(cursor.line, ImportCause::Twice, true)?;
+        reports.add(place, ImportCause::Twice, true)?;
     } else if declared.definitions.len() >= MAX_DEFINITIONS {
-        return stop(cursor.line, ImportCause::TooMany);
+        return stop(place, ImportCause::TooMany);
     } else {
         declared.definitions.push(FlexDefinition {
-            line: cursor.line,
+            place,
             name: Vec::from_slice(alloc, name)?,
             text: Vec::from_slice(alloc, text)?,
         })?;
     }
     cursor.skip_line();
+    Ok(())
+}
+
+/// Adds C text. It is part of the last one if it follows that without a gap.
+pub(crate) fn add_code(list: &mut Vec<TextRange>, code: TextRange) -> Result<(), ReadFault> {
+    if let Some(last) = list.last_mut() {
+        if last.to == code.from {
+            last.to = code.to;
+            return Ok(());
+        }
+    }
+    list.push(code)?;
     Ok(())
 }
 
@@ -161,10 +177,12 @@ fn read_directive(
     reports: &mut Reports,
 ) -> Result<(), ReadFault> {
     if cursor.begins_with(b"%{") {
-        return skip_block(cursor);
+        let code = take_lines(cursor)?;
+        return add_code(&mut declared.code, code);
     }
     if cursor.begins_with(b"%top") {
-        return skip_braces(cursor);
+        let code = take_braces(cursor)?;
+        return add_code(&mut declared.top, code);
     }
     if cursor.begins_with(b"%option") {
         cursor.advance(7);
@@ -178,8 +196,12 @@ fn read_directive(
         cursor.advance(length);
         return read_conditions(alloc, cursor, declared, reports, exclusive);
     }
-    if !is_passed_over(letter) {
-        reports.add(cursor.line, ImportCause::BadDefinitionLine, true)?;
+    if cursor.begins_with(b"%array") || cursor.begins_with(b"%pointer") {
+        let _known = declared
+            .options
+            .switch(b"array", letter == Some(b'a'), cursor.place())?;
+    } else if !is_passed_over(letter) {
+        reports.add(cursor.place(), ImportCause::BadDefinitionLine, true)?;
     }
     cursor.skip_line();
     Ok(())
@@ -191,7 +213,7 @@ fn is_line_directive(line: &[u8]) -> bool {
         return false;
     }
     let rest = skip(1, line);
-    front(4, skip(crate::cursor::blank_run(rest), rest)) == b"line".as_slice()
+    front(4, skip(blank_run(rest), rest)) == b"line".as_slice()
 }
 
 /// Reads one line of the definitions section, or the construct that begins on it.
@@ -205,13 +227,16 @@ fn read_line(
         Some(byte) => is_blank(byte),
         None => true,
     };
-    if begins_blank || cursor.is_blank_line() || is_line_directive(cursor.line_rest()) {
+    if cursor.is_blank_line() || is_line_directive(cursor.line_rest()) {
         cursor.skip_line();
         return Ok(());
     }
+    if begins_blank {
+        return add_code(&mut declared.code, take_line(cursor));
+    }
     if cursor.begins_with(b"/*") {
-        cursor.advance(2);
-        return skip_comment(cursor);
+        let code = take_comment(cursor)?;
+        return add_code(&mut declared.code, code);
     }
     if cursor.is_at(b'%') {
         return read_directive(alloc, cursor, declared, reports);
@@ -223,9 +248,10 @@ fn read_line(
 pub(crate) fn read_definitions(
     alloc: Global,
     cursor: &mut TextCursor,
+    options: FlexOptions,
     reports: &mut Reports,
 ) -> Result<Declared, ReadFault> {
-    let mut declared = nothing_declared(alloc)?;
+    let mut declared = nothing_declared(alloc, options)?;
     for _ in 0..cursor.text.len() {
         if cursor.begins_with(b"%%") {
             cursor.skip_line();
@@ -236,5 +262,5 @@ pub(crate) fn read_definitions(
         }
         read_line(alloc, cursor, &mut declared, reports)?;
     }
-    stop(cursor.line, ImportCause::NoRules)
+    stop(cursor.place(), ImportCause::NoRules)
 }

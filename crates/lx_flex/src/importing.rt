@@ -6,10 +6,11 @@ ghost use Rattle.lx_flex.specs.views.{definition_of, rule_of};
 ghost use Rattle.lx_rules.specs.views.Conditions.{condition_view};
 
 use crate::checking::{CheckFault, check};
-use crate::cursor::TextCursor;
+use crate::cursor::{FilePlace, TextCursor};
 use crate::definitions::{Declared, read_definitions};
-use crate::judging::{ImportedRule, JudgedRule, judge_rules};
+use crate::judging::{ImportedRule, JudgedRule, judge_first_code, judge_rules};
 use crate::naming::{ImportedDefinition, PatternNames, naming_of};
+use crate::options::FlexOptions;
 use crate::printing::{cases, specification};
 use crate::report::{ImportCause, ImportFault, ImportReport, ReadFault, Reports, stop};
 use crate::rules::read_rules;
@@ -55,7 +56,7 @@ struct ImportDraft {
     rules: Vec<ImportedRule>,
 }
 
-fn conditions_of(alloc: Global, declared: &Declared) -> Result<Vec<Condition>, AllocError> {
+pub fn conditions_of(alloc: Global, declared: &Declared) -> Result<Vec<Condition>, AllocError> {
     let mut conditions = Vec::new(alloc);
     for condition in declared.conditions.as_slice() {
         conditions.push(Condition {
@@ -87,20 +88,21 @@ fn draft_of(
     reports: &mut Reports,
 ) -> Result<ImportDraft, ReadFault> {
     if text.starts_with(b"lx-tables ") {
-        return stop(0, ImportCause::Tables);
+        return stop(FilePlace::WHOLE, ImportCause::Tables);
     }
     if text.len() > MAX_SPECIFICATION_BYTES {
-        return stop(0, ImportCause::TooLong);
+        return stop(FilePlace::WHOLE, ImportCause::TooLong);
     }
-    let mut cursor = TextCursor {
-        text,
-        at: 0,
-        line: 1,
-    };
-    let declared = read_definitions(alloc, &mut cursor, reports)?;
+    let mut cursor = TextCursor::new(text);
+    let options_given = FlexOptions::new(alloc);
+    let declared = read_definitions(alloc, &mut cursor, options_given, reports)?;
+    if let Some(place) = declared.options.unrelated {
+        reports.add(place, ImportCause::OptionsLeftOut, false)?;
+    }
     let PatternNames { names, definitions } = naming_of(alloc, &declared)?;
     let raw = read_rules(alloc, &mut cursor, &declared, &names, reports)?;
-    let rules = judge_rules(alloc, raw, reports)?;
+    judge_first_code(alloc, text, &declared, raw.first_code.as_slice(), reports)?;
+    let rules = judge_rules(alloc, text, &declared, raw.list, reports)?;
     Ok(ImportDraft {
         specification: specification(alloc, &declared, definitions.as_slice(), rules.as_slice())?,
         cases: cases(alloc, options, rules.as_slice())?,
@@ -110,8 +112,8 @@ fn draft_of(
     })
 }
 
-/// Returns the line in the file of the rule that lx rejects. `line` is its line in the printed text, whose last lines are the rules.
-fn own_line(draft: &ImportDraft, line: u32) -> u32 {
+/// Returns the place in the file of the rule that lx rejects. `line` is its line in the printed text, whose last lines are the rules.
+fn own_place(draft: &ImportDraft, line: u32) -> FilePlace {
     let mut lines: usize = 0;
     for byte in draft.specification.as_slice() {
         if *byte == b'\n' {
@@ -121,24 +123,24 @@ fn own_line(draft: &ImportDraft, line: u32) -> u32 {
     let before = lines.saturating_sub(draft.rules.len());
     let at = usize::try_from(line).unwrap_or(0);
     if at <= before {
-        return 0;
+        return FilePlace::WHOLE;
     }
     match draft.rules.get(at.saturating_sub(before).saturating_sub(1)) {
-        Some(rule) => rule.line,
-        None => 0,
+        Some(rule) => rule.place,
+        None => FilePlace::WHOLE,
     }
 }
 
 /// Returns the remark on why lx doesn't read the printed text as it should. Returns `None` if an allocation failed.
-fn check_report(draft: &ImportDraft, fault: CheckFault) -> Option<(u32, ImportCause)> {
+fn check_report(draft: &ImportDraft, fault: CheckFault) -> Option<(FilePlace, ImportCause)> {
     match fault {
-        CheckFault::NotTheSame => Some((0, ImportCause::NotTheSame)),
+        CheckFault::NotTheSame => Some((FilePlace::WHOLE, ImportCause::NotTheSame)),
         CheckFault::Refused(refused) => {
             if refused.code == lx_spec::Code::Memory {
                 None
             } else {
                 Some((
-                    own_line(draft, refused.line),
+                    own_place(draft, refused.line),
                     ImportCause::Refused(refused.code),
                 ))
             }
@@ -165,11 +167,11 @@ fn check_draft(alloc: Global, draft: ImportDraft, reports: Reports) -> Result<Im
         draft.rules.as_slice(),
     );
     if let Err(fault) = outcome {
-        let Some((line, cause)) = check_report(&draft, fault) else {
+        let Some((place, cause)) = check_report(&draft, fault) else {
             return Err(ImportFault::Memory);
         };
         let mut reports = reports;
-        reports.add(line, cause, true)?;
+        reports.add(place, cause, true)?;
         return Err(fault_of(reports));
     }
     let ImportDraft {
@@ -211,7 +213,7 @@ pub fn import(alloc: Global, text: &[u8], options: ImportOptions) -> Result<Impo
         Ok(draft) => draft,
         Err(ReadFault::Memory) => return Err(ImportFault::Memory),
         Err(ReadFault::At(report)) => {
-            reports.add(report.line, report.cause, true)?;
+            reports.add(report.place, report.cause, true)?;
             return Err(fault_of(reports));
         }
     };

@@ -1,8 +1,12 @@
 //! Turns rules of a flex file into rules of lx, with their `<<EOF>>` rules and actions, and reports losses.
 
-use crate::actions::FlexAction;
+use crate::actions::{FlexAction, action_of, problems_before_rules};
+use crate::c_code::{lines_before, tidy};
+use crate::cursor::{FilePlace, TextRange};
+use crate::definitions::Declared;
+use crate::lengths::matches_empty;
 use crate::report::{ImportCause, ReadFault, Reports};
-use crate::rules::FlexRule;
+use crate::rules::{FlexRule, RuleAction};
 use lx_ere::{ByteSet, Expr, Pattern};
 use lx_flex_pattern::{PatternReading, translate};
 use std::alloc::{AllocError, Global};
@@ -10,8 +14,8 @@ use std::alloc::{AllocError, Global};
 /// The conditions in which a rule is active, and its pattern.
 #[derive(Debug, Drop)]
 pub struct ImportedRule {
-    /// Line of the rule in the file.
-    pub line: u32,
+    /// Place of the rule in the file.
+    pub place: FilePlace,
     /// Numbers of its conditions, in ascending order. `None` if it names none.
     pub conditions: Option<Vec<u16>>,
     /// Pattern of the rule.
@@ -27,10 +31,30 @@ pub(crate) struct JudgedRule {
     pub(crate) action: FlexAction,
 }
 
-/// Removes the rules for `<<EOF>>`. Returns the others from the last to the first. A rule whose action is that of a removed one gets that action.
-pub(crate) fn without_eof_rules(
+/// Returns the action of a rule, with the parts that lx supports.
+fn judged_action(
     alloc: Global,
+    text: &[u8],
+    declared: &Declared,
+    action: RuleAction,
+) -> Result<FlexAction, AllocError> {
+    match action {
+        RuleAction::Bar => Ok(FlexAction::Bar),
+        RuleAction::Code(range) => {
+            let code = range.of(text);
+            let line = range.line.saturating_add(lines_before(code));
+            action_of(alloc, tidy(code), line, declared.conditions.as_slice())
+        }
+    }
+}
+
+/// Removes the rules for `<<EOF>>`. Returns the others from the last to the first. A rule whose action is that of a removed one gets that action.
+fn without_eof_rules(
+    alloc: Global,
+    text: &[u8],
+    declared: &Declared,
     rules: Vec<FlexRule>,
+    reports: &mut Reports,
 ) -> Result<Vec<(ImportedRule, bool, FlexAction)>, AllocError> {
     let mut left = rules;
     let mut kept = Vec::new(alloc);
@@ -40,13 +64,15 @@ pub(crate) fn without_eof_rules(
             break;
         };
         let FlexRule {
-            line,
+            place,
             conditions,
             reading,
             action,
         } = raw;
+        let action = judged_action(alloc, text, declared, action)?;
         match reading {
             None => {
+                reports.add(place, ImportCause::EofRule, false)?;
                 if !matches!(action, FlexAction::Bar) {
                     carried = Some(action);
                 }
@@ -59,7 +85,7 @@ pub(crate) fn without_eof_rules(
                 carried = None;
                 let (pattern, trailing) = with_newline(reading);
                 let rule = ImportedRule {
-                    line,
+                    place,
                     conditions,
                     pattern,
                 };
@@ -69,6 +95,22 @@ pub(crate) fn without_eof_rules(
     }
     kept.reverse();
     Ok(kept)
+}
+
+/// Reports what lx can't do of the code before the first rule.
+pub(crate) fn judge_first_code(
+    alloc: Global,
+    text: &[u8],
+    declared: &Declared,
+    code: &[TextRange],
+    reports: &mut Reports,
+) -> Result<(), AllocError> {
+    for range in code {
+        let conditions = declared.conditions.as_slice();
+        let problems = problems_before_rules(alloc, range.of(text), range.line, conditions)?;
+        reports.add_losses(problems.as_slice())?;
+    }
+    Ok(())
 }
 
 /// Returns true if the only text of the expression is a newline.
@@ -105,18 +147,6 @@ fn with_newline(reading: PatternReading) -> (Pattern, bool) {
     (pattern, false)
 }
 
-/// Returns true if the tree matches the empty word. A name isn't known, and counts as false.
-fn matches_empty(tree: &Expr) -> bool {
-    match tree {
-        Expr::Nil => true,
-        Expr::Set(_) => false,
-        Expr::Then(first, second) => matches_empty(first) && matches_empty(second),
-        Expr::Or(this, that) => matches_empty(this) || matches_empty(that),
-        Expr::Times { body, low, high: _ } => *low == 0 || matches_empty(body),
-        Expr::Name(_) => false,
-    }
-}
-
 /// Reports on a pattern with `$` or with another trailing context.
 fn judge_pattern(
     reports: &mut Reports,
@@ -125,13 +155,13 @@ fn judge_pattern(
     behind_bar: bool,
 ) -> Result<(), AllocError> {
     if trailing {
-        reports.add_loss(rule.line, ImportCause::TrailingContext)?;
+        reports.add_loss(rule.place, ImportCause::TrailingContext)?;
     }
     if rule.pattern.line_end && behind_bar {
-        reports.add_loss(rule.line, ImportCause::DollarBehindBar)?;
+        reports.add_loss(rule.place, ImportCause::DollarBehindBar)?;
     }
     if rule.pattern.line_end && matches_empty(&rule.pattern.expr) {
-        reports.add_loss(rule.line, ImportCause::EmptyBeforeDollar)?;
+        reports.add_loss(rule.place, ImportCause::EmptyBeforeDollar)?;
     }
     Ok(())
 }
@@ -139,14 +169,14 @@ fn judge_pattern(
 /// Reports what lx can't do of an action. Keeps the conditions that the action begins unconditionally, and the rule's number.
 fn judge_action(
     reports: &mut Reports,
-    rule_line: u32,
+    place: FilePlace,
     action: &FlexAction,
     last: bool,
 ) -> Result<(), AllocError> {
     match action {
         FlexAction::Bar => {
             if last {
-                reports.add(rule_line, ImportCause::DanglingBar, true)?;
+                reports.add(place, ImportCause::DanglingBar, true)?;
             }
         }
         FlexAction::Steps(_) => {}
@@ -170,7 +200,7 @@ fn text_of(
         Ok(text) => Ok(Some(text)),
         Err(lx_flex_pattern::PatternFault::Memory) => Err(ReadFault::Memory),
         Err(cause) => {
-            reports.add(rule.line, ImportCause::Pattern(cause), true)?;
+            reports.add(rule.place, ImportCause::Pattern(cause), true)?;
             Ok(None)
         }
     }
@@ -179,10 +209,12 @@ fn text_of(
 /// Returns the rules as lx has them, and reports all remarks on them.
 pub(crate) fn judge_rules(
     alloc: Global,
+    text: &[u8],
+    declared: &Declared,
     rules: Vec<FlexRule>,
     reports: &mut Reports,
 ) -> Result<Vec<JudgedRule>, ReadFault> {
-    let kept = without_eof_rules(alloc, rules)?;
+    let kept = without_eof_rules(alloc, text, declared, rules, reports)?;
     let count = kept.len();
     let mut judged = Vec::new(alloc);
     let mut behind_bar = false;
@@ -191,7 +223,7 @@ pub(crate) fn judge_rules(
         number = number.saturating_add(1);
         judge_pattern(reports, &rule, trailing, behind_bar)?;
         behind_bar = matches!(action, FlexAction::Bar);
-        judge_action(reports, rule.line, &action, number == count)?;
+        judge_action(reports, rule.place, &action, number == count)?;
         if let Some(text) = text_of(alloc, reports, &rule)? {
             judged.push(JudgedRule { rule, text, action })?;
         }

@@ -4,18 +4,22 @@
 mod actions;
 mod c_code;
 mod checking;
-mod conditions;
-mod cursor;
-mod definitions;
+pub mod conditions;
+pub mod cursor;
+pub mod definitions;
+pub mod file;
+pub mod flags;
 pub mod importing;
 pub mod judging;
+pub mod lengths;
 pub mod naming;
-mod options;
+pub mod options;
 mod printing;
 pub mod report;
-mod rules;
-mod tokens;
+pub mod rules;
+pub mod tokens;
 
+pub use crate::cursor::{FilePlace, TextRange};
 pub use crate::importing::{ImportOptions, Imported, import};
 pub use crate::judging::ImportedRule;
 pub use crate::naming::ImportedDefinition;

@@ -119,10 +119,11 @@ fn import_definition(
     definition: &FlexDefinition,
 ) -> Result<Option<(Expr, Vec<u8>)>, ReadFault> {
     let text = definition.text.as_slice();
-    if is_anchored(text) || declared.options.bare_names {
+    let options = declared.options.for_patterns();
+    if is_anchored(text) || options.bare_names {
         return Ok(None);
     }
-    let reading = match read_pattern(alloc, text, names, declared.options) {
+    let reading = match read_pattern(alloc, text, names, options) {
         Ok(reading) => reading,
         Err(lx_flex_pattern::PatternFault::Memory) => return Err(ReadFault::Memory),
         Err(_) => return Ok(None),

@@ -1,6 +1,7 @@
 //! Reports on constructs that can't be imported, or only with a loss, and on what to do.
 
 use crate::actions::Problem;
+use crate::cursor::FilePlace;
 use std::alloc::{AllocError, AllocFailed};
 use thiserror::Error;
 
@@ -21,6 +22,12 @@ pub enum ImportCause {
     TooMany,
     #[error("flex has no such %option; delete the word")]
     UnknownOption,
+    #[error("REJECT is not supported; write the other rule's pattern first")]
+    RejectInScanner,
+    #[error("C++ scanners (%option c++, yyclass) are not supported; a C++ compiler takes the scanner in C, so delete the word")]
+    CppScanner,
+    #[error("serialized tables (%option tables-file, tables-verify) are not supported; the scanner has its tables, so delete the word")]
+    SerializedTables,
     #[error("words of %option that change no token are left out")]
     OptionsLeftOut,
     #[error("flex reads no rule here; write a pattern, blanks and an action")]
@@ -73,10 +80,10 @@ pub enum ImportCause {
     NotTheSame,
 }
 
-/// A report on a line, counted from 1.
+/// A report on a place.
 #[derive(Debug, Clone, Copy, PartialEq, Eq)]
 pub struct ImportReport {
-    pub line: u32,
+    pub place: FilePlace,
     pub cause: ImportCause,
     /// True if it prevents the import of the file.
     pub fatal: bool,
@@ -144,31 +151,36 @@ impl Reports {
         false
     }
 
-    /// Returns the position for a report on this line: after those on this line and on earlier ones.
-    fn place_of(&self, line: u32) -> usize {
-        let mut place: usize = 0;
+    /// Returns the number of reports on this line and on earlier ones.
+    fn count_up_to(&self, line: u32) -> usize {
+        let mut count: usize = 0;
         for report in self.list.as_slice() {
-            if report.line <= line {
-                place = place.saturating_add(1);
+            if report.place.line <= line {
+                count = count.saturating_add(1);
             }
         }
-        place
+        count
     }
 
     /// Adds a report, after those on its line and on earlier ones. Above the limit, the last report says that there are more.
     pub(crate) fn add(
         &mut self,
-        line: u32,
+        place: FilePlace,
         cause: ImportCause,
         fatal: bool,
     ) -> Result<(), AllocError> {
         self.fatal = self.fatal || fatal;
         if self.list.len() < MAX_REPORTS {
-            let at = self.place_of(line).min(self.list.len());
-            self.list.insert(at, ImportReport { line, cause, fatal })?;
+            let at = self.count_up_to(place.line).min(self.list.len());
+            let report = ImportReport {
+                place,
+                cause,
+                fatal,
+            };
+            self.list.insert(at, report)?;
         } else if self.list.len() == MAX_REPORTS {
             self.list.push(ImportReport {
-                line: 0,
+                place: FilePlace::WHOLE,
                 cause: ImportCause::Further,
                 fatal,
             })?;
@@ -177,24 +189,28 @@ impl Reports {
     }
 
     /// Adds a report of a loss. It is fatal unless losses are only reported.
-    pub(crate) fn add_loss(&mut self, line: u32, cause: ImportCause) -> Result<(), AllocError> {
+    pub(crate) fn add_loss(
+        &mut self,
+        place: FilePlace,
+        cause: ImportCause,
+    ) -> Result<(), AllocError> {
         let fatal = !self.lossy;
-        self.add(line, cause, fatal)
+        self.add(place, cause, fatal)
     }
 
     /// Adds a report of each of these losses.
     pub(crate) fn add_losses(&mut self, problems: &[Problem]) -> Result<(), AllocError> {
         for problem in problems {
-            self.add_loss(problem.line, problem.cause)?;
+            self.add_loss(FilePlace::line_start(problem.line), problem.cause)?;
         }
         Ok(())
     }
 }
 
 /// Returns a report that stops reading.
-pub(crate) fn stop<T>(line: u32, cause: ImportCause) -> Result<T, ReadFault> {
+pub(crate) fn stop<T>(place: FilePlace, cause: ImportCause) -> Result<T, ReadFault> {
     Err(ReadFault::At(ImportReport {
-        line,
+        place,
         cause,
         fatal: true,
     }))

@@ -1,10 +1,9 @@
 //! The rules section (flex's manual, "Format of the Rules Section", "Start Conditions").
 
-use crate::actions::{FlexAction, action_of, problems_before_rules};
-use crate::c_code::{lines_before, skip_block, strip_mark, take_action, take_block, tidy};
+use crate::c_code::{strip_mark, take_action, take_block, take_line, take_lines};
 use crate::conditions::{name_at, place_of, union};
-use crate::cursor::{TextCursor, between, blank_run, front, is_blank, skip};
-use crate::definitions::Declared;
+use crate::cursor::{FilePlace, TextCursor, TextRange, blank_run, front, is_blank, skip};
+use crate::definitions::{Declared, add_code};
 use crate::report::{ImportCause, ReadFault, Reports, stop};
 use lx_flex_pattern::reading::MAX_FLEX_PATTERN_BYTES;
 use lx_flex_pattern::{NamedPatterns, PatternFault, PatternReading, read_pattern};
@@ -14,29 +13,58 @@ use std::alloc::{AllocError, Global};
 /// Greatest number of scopes that are open at once.
 const MAX_SCOPES: usize = 64;
 
-/// A rule, as it is written.
-#[derive(Drop)]
-pub(crate) struct FlexRule {
-    pub(crate) line: u32,
-    /// Conditions that it names, with those of the scopes around it. `None` if there are none.
-    pub(crate) conditions: Option<Vec<u16>>,
-    /// Pattern of the rule. `None` for `<<EOF>>`.
-    pub(crate) reading: Option<PatternReading>,
-    pub(crate) action: FlexAction,
+/// The action of a rule, as it is written.
+#[derive(Debug, Clone, Copy, PartialEq, Eq)]
+pub enum RuleAction {
+    /// `|`, the action of the next rule.
+    Bar,
+    /// C text.
+    Code(TextRange),
 }
 
-/// An open scope: its conditions with those around it, and its line.
+/// A rule, as it is written.
+#[derive(Debug, Drop)]
+pub struct FlexRule {
+    pub place: FilePlace,
+    /// Conditions that it names, with those of the scopes around it. `None` if there are none.
+    pub conditions: Option<Vec<u16>>,
+    /// Pattern of the rule. `None` for `<<EOF>>`.
+    pub reading: Option<PatternReading>,
+    pub action: RuleAction,
+}
+
+/// An open scope: its conditions with those around it, and its place.
 #[derive(Drop)]
 struct Scope {
     conditions: Vec<u16>,
-    line: u32,
+    place: FilePlace,
 }
 
-/// The rules that were read.
+/// C text after a number of rules.
+#[derive(Debug, Clone, Copy, PartialEq, Eq)]
+pub struct CodeAfterRules {
+    /// Number of rules before it.
+    pub rules: usize,
+    pub code: TextRange,
+}
+
+/// The rules section.
+#[derive(Debug, Drop)]
+pub struct FlexRules {
+    /// C text before the first rule.
+    pub first_code: Vec<TextRange>,
+    pub list: Vec<FlexRule>,
+    /// C text between rules, in the order of the file.
+    pub code: Vec<CodeAfterRules>,
+}
+
+/// The rules that were read, and the scopes that are open.
 #[derive(Drop)]
 struct Rules {
     scopes: Vec<Scope>,
+    first_code: Vec<TextRange>,
     list: Vec<FlexRule>,
+    code: Vec<CodeAfterRules>,
     /// True before the first rule. Indented lines are code then.
     prologue: bool,
 }
@@ -85,11 +113,11 @@ fn read_condition(
         return Ok(false);
     }
     let found = place_of(declared.conditions.as_slice(), name);
-    let line = cursor.line;
+    let place = cursor.place();
     cursor.advance(name.len());
     match found {
         Some(number) => numbers.push(number)?,
-        None => reports.add(line, ImportCause::UnknownCondition, true)?,
+        None => reports.add(place, ImportCause::UnknownCondition, true)?,
     }
     Ok(true)
 }
@@ -125,30 +153,17 @@ fn read_list(
 }
 
 /// Reads the action after a pattern.
-fn read_action(
-    alloc: Global,
-    cursor: &mut TextCursor,
-    declared: &Declared,
-) -> Result<FlexAction, ReadFault> {
+fn read_action(cursor: &mut TextCursor) -> Result<RuleAction, ReadFault> {
     cursor.skip_blanks();
-    let line = cursor.line;
     if cursor.is_at(b'|') {
         cursor.skip_line();
-        return Ok(FlexAction::Bar);
+        return Ok(RuleAction::Bar);
     }
-    let text = if cursor.begins_with(b"%{") {
+    if cursor.begins_with(b"%{") {
         cursor.advance(2);
-        take_block(cursor)?
-    } else {
-        take_action(cursor)?
-    };
-    let first_line = line.saturating_add(lines_before(text));
-    Ok(action_of(
-        alloc,
-        tidy(text),
-        first_line,
-        declared.conditions.as_slice(),
-    )?)
+        return Ok(RuleAction::Code(take_block(cursor)?));
+    }
+    Ok(RuleAction::Code(take_action(cursor)?))
 }
 
 /// Returns the conditions of a rule: those of the scopes and its own.
@@ -179,7 +194,7 @@ fn pattern_at(
     names: &NamedPatterns,
 ) -> Result<PatternReading, PatternFault> {
     let window = front(MAX_FLEX_PATTERN_BYTES, text);
-    let reading = read_pattern(alloc, window, names, declared.options)?;
+    let reading = read_pattern(alloc, window, names, declared.options.for_patterns())?;
     if reading.length == window.len() && window.len() < text.len() {
         return Err(PatternFault::TooLarge);
     }
@@ -194,18 +209,18 @@ fn read_rule_pattern(
     names: &NamedPatterns,
     reports: &mut Reports,
 ) -> Result<Option<PatternReading>, ReadFault> {
-    let line = cursor.line;
+    let place = cursor.place();
     match pattern_at(alloc, cursor.rest(), declared, names) {
         Ok(reading) => {
             cursor.advance(reading.length);
             if is_behind_pattern(cursor) {
                 return Ok(Some(reading));
             }
-            reports.add(line, ImportCause::BadRule, true)?;
+            reports.add(cursor.place(), ImportCause::BadRule, true)?;
         }
         Err(PatternFault::Memory) => return Err(ReadFault::Memory),
         Err(cause) => {
-            reports.add(line, ImportCause::Pattern(cause), true)?;
+            reports.add(place, ImportCause::Pattern(cause), true)?;
             let length = lx_ere::pattern_end(cursor.line_rest());
             cursor.advance(length);
         }
@@ -223,9 +238,9 @@ fn read_rule(
     rules: &mut Rules,
     own: &[u16],
 ) -> Result<(), ReadFault> {
-    let line = cursor.line;
+    let place = cursor.place();
     if rules.list.len() >= MAX_RULES {
-        return stop(line, ImportCause::TooMany);
+        return stop(place, ImportCause::TooMany);
     }
     let end_of_file = cursor.begins_with(b"<<EOF>>");
     let reading = if end_of_file {
@@ -234,15 +249,13 @@ fn read_rule(
     } else {
         read_rule_pattern(alloc, cursor, declared, names, reports)?
     };
-    let action = read_action(alloc, cursor, declared)?;
-    if end_of_file {
-        reports.add(line, ImportCause::EofRule, false)?;
-    } else if reading.is_none() {
+    let action = read_action(cursor)?;
+    if !end_of_file && reading.is_none() {
         return Ok(());
     }
     let conditions = conditions_of(alloc, rules, declared, own)?;
     rules.list.push(FlexRule {
-        line,
+        place,
         conditions,
         reading,
         action,
@@ -273,13 +286,13 @@ fn open_scope(
     own: &[u16],
 ) -> Result<(), ReadFault> {
     if rules.scopes.len() >= MAX_SCOPES {
-        return stop(cursor.line, ImportCause::TooMany);
+        return stop(cursor.place(), ImportCause::TooMany);
     }
     let outer = own_conditions(alloc, rules)?;
     let conditions = union(alloc, condition_count(declared), outer.as_slice(), own)?;
     rules.scopes.push(Scope {
         conditions,
-        line: cursor.line,
+        place: cursor.place(),
     })?;
     cursor.advance(1);
     if is_behind_pattern(cursor) {
@@ -294,7 +307,7 @@ fn skip_to_next(cursor: &mut TextCursor, rules: &mut Rules) -> Result<(), ReadFa
         return Ok(());
     }
     for _ in 0..cursor.text.len() {
-        if cursor.is_at_end() || !skip_code(cursor, rules)? {
+        if cursor.is_at_end() || !read_code(cursor, rules)? {
             break;
         }
     }
@@ -311,10 +324,10 @@ fn read_listed(
     reports: &mut Reports,
     rules: &mut Rules,
 ) -> Result<(), ReadFault> {
-    let line = cursor.line;
+    let place = cursor.place();
     cursor.advance(1);
     let Some(own) = read_list(alloc, cursor, declared, reports)? else {
-        reports.add(line, ImportCause::BadRule, true)?;
+        reports.add(place, ImportCause::BadRule, true)?;
         cursor.skip_line();
         return Ok(());
     };
@@ -340,26 +353,46 @@ fn close_scope(
     rules: &mut Rules,
 ) -> Result<(), ReadFault> {
     if rules.scopes.pop().is_none() {
-        reports.add(cursor.line, ImportCause::BadRule, true)?;
+        reports.add(cursor.place(), ImportCause::BadRule, true)?;
     }
     cursor.advance(1);
     let _code = take_action(cursor)?;
     Ok(())
 }
 
-/// Skips an empty line, code or comments between rules. Returns true if there was any.
-fn skip_code(cursor: &mut TextCursor, rules: &mut Rules) -> Result<bool, ReadFault> {
+/// Adds C text that isn't an action: before the first rule, or between rules.
+fn keep_code(rules: &mut Rules, code: TextRange) -> Result<(), ReadFault> {
+    if rules.prologue {
+        return add_code(&mut rules.first_code, code);
+    }
+    let after = rules.list.len();
+    rules.code.push(CodeAfterRules { rules: after, code })?;
+    Ok(())
+}
+
+/// Reads code before the first rule: a block or an indented line. Returns true if there was any.
+fn read_first_code(cursor: &mut TextCursor, rules: &mut Rules) -> Result<bool, ReadFault> {
+    if cursor.begins_with(b"%{") {
+        let code = take_lines(cursor)?;
+        keep_code(rules, code)?;
+        return Ok(true);
+    }
+    if cursor.is_at(b' ') || cursor.is_at(b'\t') {
+        let code = take_line(cursor);
+        keep_code(rules, code)?;
+        return Ok(true);
+    }
+    Ok(false)
+}
+
+/// Reads an empty line, code or comments between rules. Returns true if there was any.
+fn read_code(cursor: &mut TextCursor, rules: &mut Rules) -> Result<bool, ReadFault> {
     if cursor.is_blank_line() {
         cursor.skip_line();
         return Ok(true);
     }
     if rules.prologue {
-        if cursor.begins_with(b"%{") {
-            skip_block(cursor)?;
-            return Ok(true);
-        }
-        if cursor.is_at(b' ') || cursor.is_at(b'\t') {
-            cursor.skip_line();
+        if read_first_code(cursor, rules)? {
             return Ok(true);
         }
         rules.prologue = false;
@@ -369,11 +402,13 @@ fn skip_code(cursor: &mut TextCursor, rules: &mut Rules) -> Result<bool, ReadFau
     if strip_mark(b"%{", inner).is_some() {
         cursor.skip_blanks();
         cursor.advance(2);
-        let _code = take_block(cursor)?;
+        let code = take_block(cursor)?;
+        keep_code(rules, code)?;
         return Ok(true);
     }
     if strip_mark(b"/*", inner).is_some() && blank_run(rest) != 0 {
-        let _code = take_action(cursor)?;
+        let code = take_action(cursor)?;
+        keep_code(rules, code)?;
         return Ok(true);
     }
     Ok(false)
@@ -388,7 +423,7 @@ fn read_line(
     reports: &mut Reports,
     rules: &mut Rules,
 ) -> Result<(), ReadFault> {
-    if skip_code(cursor, rules)? {
+    if read_code(cursor, rules)? {
         return Ok(());
     }
     cursor.skip_blanks();
@@ -408,33 +443,33 @@ pub(crate) fn read_rules(
     declared: &Declared,
     names: &NamedPatterns,
     reports: &mut Reports,
-) -> Result<Vec<FlexRule>, ReadFault> {
+) -> Result<FlexRules, ReadFault> {
     let mut rules = Rules {
         scopes: Vec::new(alloc),
+        first_code: Vec::new(alloc),
         list: Vec::new(alloc),
+        code: Vec::new(alloc),
         prologue: true,
     };
-    let (start, line) = (cursor.at, cursor.line);
-    let mut end = start;
     for _ in 0..cursor.text.len() {
         if cursor.is_at_end() || cursor.begins_with(b"%%") {
             break;
         }
         read_line(alloc, cursor, declared, names, reports, &mut rules)?;
-        if rules.prologue {
-            end = cursor.at;
-        }
     }
-    let code = between(start, end, cursor.text);
-    let problems = problems_before_rules(alloc, code, line, declared.conditions.as_slice())?;
-    reports.add_losses(problems.as_slice())?;
     let Rules {
         scopes,
+        first_code,
         list,
+        code,
         prologue: _,
     } = rules;
     match scopes.last() {
-        Some(scope) => stop(scope.line, ImportCause::NotClosed),
-        None => Ok(list),
+        Some(scope) => stop(scope.place, ImportCause::NotClosed),
+        None => Ok(FlexRules {
+            first_code,
+            list,
+            code,
+        }),
     }
 }

@@ -152,3 +152,20 @@ impl<'a> Tokens<'a> {
         Some(Token::Mark(byte))
     }
 }
+
+/// Returns true if a text has this word.
+pub fn has_word(text: &[u8], word: &[u8]) -> bool {
+    let mut tokens = Tokens::new(text);
+    for _ in 0..text.len() {
+        match tokens.next() {
+            None => return false,
+            Some(Token::Word(found)) => {
+                if found == word {
+                    return true;
+                }
+            }
+            Some(_) => {}
+        }
+    }
+    false
+}

@@ -42,8 +42,8 @@ fn scanner_words<'a>(words: &ImportWords<'a>) -> CWords<'a>
 // Appends a line of the report: its place in the file, its severity, and what to do.
 fn push_report(notes: &mut Vec<u8>, name: &str, report: &ImportReport) -> Result<(), AllocError> {
     let weight = if report.fatal { "error" } else { "warning" };
-    let written = if 0 < report.line {
-        writeln!(notes, "{name}:{}: {weight}: {}", report.line, report.cause)
+    let written = if 0 < report.place.line {
+        writeln!(notes, "{name}:{}: {weight}: {}", report.place.line, report.cause)
     } else {
         writeln!(notes, "{name}: {weight}: {}", report.cause)
     };

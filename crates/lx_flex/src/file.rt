@@ -1,0 +1,134 @@
+//! Reads a whole file for lex or flex (POSIX.1-2017, XCU `lex`, "Input Files"; flex's manual, "Format of the Input File").
+
+use crate::cursor::{FilePlace, TextCursor, TextRange};
+use crate::definitions::{Declared, FlexDefinition, read_definitions};
+use crate::options::FlexOptions;
+use crate::report::{ImportCause, ImportFault, ReadFault, Reports, stop};
+use crate::rules::{FlexRules, RuleAction, read_rules};
+use lx_flex_pattern::NamedPatterns;
+use lx_rules::limits::MAX_SPECIFICATION_BYTES;
+use std::alloc::{AllocError, Global};
+
+/// A file for lex or flex.
+#[derive(Debug, Drop)]
+pub struct FlexFile<'a> {
+    pub text: &'a [u8],
+    /// The definitions section.
+    pub declared: Declared,
+    /// The rules section.
+    pub rules: FlexRules,
+    /// The user's functions after the second `%%`.
+    pub functions: TextRange,
+}
+
+/// Options that a C scanner can't follow, with the causes that are reported.
+const UNSUPPORTED: &[(&[u8], ImportCause)] = &[
+    (b"c++", ImportCause::CppScanner),
+    (b"yyclass", ImportCause::CppScanner),
+    (b"tables-file", ImportCause::SerializedTables),
+    (b"tables-verify", ImportCause::SerializedTables),
+];
+
+/// Returns the definitions, each expanded where a pattern names it.
+fn expanded_names(
+    alloc: Global,
+    definitions: &[FlexDefinition],
+) -> Result<NamedPatterns, AllocError> {
+    let mut names = NamedPatterns::new(alloc);
+    for definition in definitions {
+        names.add(
+            alloc,
+            definition.name.as_slice(),
+            definition.text.as_slice(),
+            None,
+        )?;
+    }
+    Ok(names)
+}
+
+/// Reports options that a C scanner can't follow.
+fn judge_options(options: &FlexOptions, reports: &mut Reports) -> Result<(), AllocError> {
+    for (word, cause) in UNSUPPORTED {
+        if !options.is_on(*word) && options.value_of(*word).is_none() {
+            continue;
+        }
+        if let Some(place) = options.place_of(*word) {
+            reports.add(place, *cause, true)?;
+        }
+    }
+    Ok(())
+}
+
+/// Reports a last rule whose action is that of a next one.
+fn judge_last_rule(rules: &FlexRules, reports: &mut Reports) -> Result<(), AllocError> {
+    match rules.list.last() {
+        Some(rule) => {
+            if rule.action == RuleAction::Bar {
+                reports.add(rule.place, ImportCause::DanglingBar, true)?;
+            }
+            Ok(())
+        }
+        None => Ok(()),
+    }
+}
+
+/// Takes the text after the second `%%` line, or the empty text at the file's end.
+fn take_functions(cursor: &mut TextCursor) -> TextRange {
+    cursor.skip_line();
+    let start = *cursor;
+    let length = cursor.rest().len();
+    cursor.advance(length);
+    cursor.since(start)
+}
+
+fn read_sections<'a>(
+    alloc: Global,
+    text: &'a [u8],
+    options: FlexOptions,
+    reports: &mut Reports,
+) -> Result<FlexFile<'a>, ReadFault> {
+    if text.len() > MAX_SPECIFICATION_BYTES {
+        return stop(FilePlace::WHOLE, ImportCause::TooLong);
+    }
+    let mut cursor = TextCursor::new(text);
+    let declared = read_definitions(alloc, &mut cursor, options, reports)?;
+    judge_options(&declared.options, reports)?;
+    let names = expanded_names(alloc, declared.definitions.as_slice())?;
+    let rules = read_rules(alloc, &mut cursor, &declared, &names, reports)?;
+    judge_last_rule(&rules, reports)?;
+    let functions = take_functions(&mut cursor);
+    Ok(FlexFile {
+        text,
+        declared,
+        rules,
+        functions,
+    })
+}
+
+/// Reads a file for lex or flex. `options` has those of the command line.
+///
+/// Err: reports of all faults, in the order of the file.
+pub fn read_file<'a>(
+    alloc: Global,
+    text: &'a [u8],
+    options: FlexOptions,
+) -> Result<FlexFile<'a>, ImportFault> {
+    let mut reports = Reports {
+        list: Vec::new(alloc),
+        fatal: false,
+        lossy: false,
+    };
+    match read_sections(alloc, text, options, &mut reports) {
+        Ok(file) => {
+            if reports.fatal {
+                return Err(ImportFault::Refused(reports.list));
+            }
+            Ok(file)
+        }
+        Err(ReadFault::Memory) => Err(ImportFault::Memory),
+        Err(ReadFault::At(report)) => {
+            reports.add(report.place, report.cause, true)?;
+            Err(ImportFault::Refused(reports.list))
+        }
+    }
+}
