@@ -13,7 +13,7 @@ pub mod laws;
 mod looping;
 pub mod options;
 pub mod printing;
-mod pushing;
+pub mod pushing;
 mod row_numbers;
 mod rows;
 mod stepping;

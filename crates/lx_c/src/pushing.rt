@@ -1,6 +1,7 @@
 //! Parts of the text of a scanner, appended.
 
 ghost use Rattle.std.specs.Prelude.{◌≡◌, ◌++◌, OnOk};
+ghost use Rattle.lx_c.specs.Rows.{type_text};
 ghost use Rattle.lx_c.specs.Templates.{either, filled, number_then, numbered};
 ghost use Rattle.lx_tables.specs.Texts.{number};
 
@@ -9,17 +10,17 @@ use itoa::Buffer;
 use std::alloc::AllocError;
 
 /// The result of appending to a text. Err: memory was refused.
-pub(crate) type PushResult = Result<(), AllocError>;
+pub type PushResult = Result<(), AllocError>;
 
 /// Appends bytes.
-pub(crate) fn push(text: &mut Vec<u8>, bytes: &[u8]) -> PushResult
+pub fn push(text: &mut Vec<u8>, bytes: &[u8]) -> PushResult
     ensures { OnOk result (text.new.items ≡ text.old.items ++ bytes.now) }
 {
     text.extend_from_slice(bytes)
 }
 
 /// Appends a number.
-pub(crate) fn push_number(text: &mut Vec<u8>, n: u64) -> PushResult
+pub fn push_number(text: &mut Vec<u8>, n: u64) -> PushResult
     ensures { OnOk result (text.new.items ≡ text.old.items ++ number n) }
 {
     let mut digits = Buffer::new();
@@ -27,11 +28,24 @@ pub(crate) fn push_number(text: &mut Vec<u8>, n: u64) -> PushResult
 }
 
 /// Appends a number and the bytes after it.
-pub(crate) fn push_number_then(text: &mut Vec<u8>, n: u64, after: &[u8]) -> PushResult
+pub fn push_number_then(text: &mut Vec<u8>, n: u64, after: &[u8]) -> PushResult
     ensures { OnOk result (text.new.items ≡ text.old.items ++ number_then n after.now) }
 {
     push_number(text, n)?;
     push(text, after)
+}
+
+/// Appends the smallest unsigned type of C that holds all numbers up to the greatest.
+pub fn push_type(text: &mut Vec<u8>, most: u64) -> PushResult
+    ensures { OnOk result (text.new.items ≡ text.old.items ++ type_text most) }
+{
+    if most < 256 {
+        push(text, b"unsigned char")
+    } else if most < 65536 {
+        push(text, b"unsigned short")
+    } else {
+        push(text, b"unsigned int")
+    }
 }
 
 /// Appends a template, with the prefix for each `@`.

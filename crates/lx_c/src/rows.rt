@@ -8,7 +8,7 @@ ghost use Rattle.std.specs.List.{list_any};
 ghost use Rattle.std.specs.Prelude.{OnOk, length, ◌++◌, ◌<◌, ◌≡◌};
 
 use crate::options::Options;
-use crate::pushing::{PushResult, push, push_either, push_filled, push_number_then, push_numbered};
+use crate::pushing::{PushResult, push, push_either, push_filled, push_number_then, push_numbered, push_type};
 use crate::templates::{CLASSES, LINE_BEGIN, NO_LINE_BEGIN, ROWS, STARTS, WIDTH};
 use crate::{greatest_word, rule_word, start_word, target_word};
 use lx_tables::Tables;
@@ -55,19 +55,6 @@ fn push_start(text: &mut Vec<u8>, tables: &Tables, condition: u16) -> PushResult
     push_number_then(text, start_word(tables, condition, false), b",")?;
     push_number_then(text, start_word(tables, condition, true), b",")?;
     push(text, b"\n")
-}
-
-// Appends the smallest type that holds all words up to the greatest.
-fn push_type(text: &mut Vec<u8>, most: u64) -> PushResult
-    ensures { OnOk result (text.new.items ≡ text.old.items ++ rows.type_text most) }
-{
-    if most < 256 {
-        push(text, b"unsigned char")
-    } else if most < 65536 {
-        push(text, b"unsigned short")
-    } else {
-        push(text, b"unsigned int")
-    }
 }
 
 fn push_classes(text: &mut Vec<u8>, options: &Options, tables: &Tables) -> PushResult

@@ -1,0 +1,4 @@
+pub mod Arrays
+pub mod Checked
+pub mod Translation
+pub mod views

@@ -1,0 +1,18 @@
+//! Prints a scanner in C of a file for lex or flex, with the C of its actions.
+#![tactic(auto)]
+
+mod actions;
+mod arrays;
+pub mod outline;
+pub mod printing;
+mod skeleton_calls;
+mod skeleton_head;
+mod skeleton_scan;
+pub mod source_names;
+mod template;
+pub mod translating;
+
+pub use crate::outline::{FileOutline, MatchCut, split};
+pub use crate::printing::{PrintOptions, header_of, scanner_of};
+pub use crate::source_names::{SourceName, place_in};
+pub use crate::translating::{cut_specification_of, specification_of};

@@ -1,0 +1,219 @@
+//! The rules of a file, as far as they are printed.
+
+use lx_ere::Expr;
+use lx_flex::definitions::Declared;
+use lx_flex::file::FlexFile;
+use lx_flex::lengths::{fixed_length, matches_empty, may_have_newline};
+use lx_flex::rules::{CodeAfterRules, FlexRule, FlexRules, RuleAction};
+use lx_flex::tokens::has_word;
+use lx_flex::{FilePlace, TextRange};
+use lx_flex_pattern::PatternReading;
+use std::alloc::{AllocError, Global};
+
+/// The part of a match that is the token. The rest is trailing context.
+#[derive(Debug, Clone, Copy, PartialEq, Eq)]
+pub enum MatchCut {
+    /// All of it.
+    Whole,
+    /// All but this number of bytes at its end.
+    Before(u32),
+    /// This number of bytes at its start.
+    First(u32),
+    /// Both parts have texts of several lengths. The flags are true if the token, or its context, can be empty.
+    Varying { token: bool, context: bool },
+}
+
+/// Returns true if both parts of a match have texts of several lengths.
+pub(crate) fn is_varying(cut: MatchCut) -> bool {
+    matches!(
+        cut,
+        MatchCut::Varying {
+            token: _,
+            context: _
+        }
+    )
+}
+
+/// A pattern, as far as it is printed.
+#[derive(Debug, Clone, Copy, PartialEq, Eq)]
+pub struct PatternOutline {
+    /// True if a match has to begin at the start of a line.
+    pub line_begin: bool,
+    /// False if no token of the rule has a newline.
+    pub has_newline: bool,
+    pub cut: MatchCut,
+}
+
+/// A rule, as far as it is printed.
+#[derive(Debug, Drop)]
+pub struct RuleOutline {
+    pub place: FilePlace,
+    /// Numbers of its conditions, in ascending order. `None` if it names none.
+    pub conditions: Option<Vec<u16>>,
+    /// Outline of the pattern. `None` for `<<EOF>>`.
+    pub pattern: Option<PatternOutline>,
+    pub action: RuleAction,
+}
+
+/// A file, as far as it is printed.
+#[derive(Debug, Drop)]
+pub struct FileOutline<'a> {
+    pub text: &'a [u8],
+    pub declared: Declared,
+    pub first_code: Vec<TextRange>,
+    pub rules: Vec<RuleOutline>,
+    pub code: Vec<CodeAfterRules>,
+    pub functions: TextRange,
+}
+
+/// Returns the cut of a match of two parts.
+fn cut_between(token: &Expr, context: &Expr) -> MatchCut {
+    match fixed_length(context) {
+        Some(length) => MatchCut::Before(length),
+        None => match fixed_length(token) {
+            Some(length) => MatchCut::First(length),
+            None => MatchCut::Varying {
+                token: matches_empty(token),
+                context: matches_empty(context),
+            },
+        },
+    }
+}
+
+/// Returns the outline of a pattern.
+pub fn outline_of(reading: &PatternReading) -> PatternOutline {
+    let expr = &reading.pattern.expr;
+    let line_begin = reading.pattern.line_begin;
+    let has_newline = may_have_newline(expr);
+    match &reading.trailing {
+        Some(context) => PatternOutline {
+            line_begin,
+            has_newline,
+            cut: cut_between(expr, context),
+        },
+        None => {
+            let line_end = reading.pattern.line_end;
+            PatternOutline {
+                line_begin,
+                has_newline,
+                cut: if line_end {
+                    MatchCut::Before(1)
+                } else {
+                    MatchCut::Whole
+                },
+            }
+        }
+    }
+}
+
+fn copy_of(conditions: &Option<Vec<u16>>) -> Result<Option<Vec<u16>>, AllocError> {
+    match conditions {
+        Some(list) => Ok(Some(list.clone()?)),
+        None => Ok(None),
+    }
+}
+
+fn rule_outline(rule: &FlexRule) -> Result<RuleOutline, AllocError> {
+    let pattern = match &rule.reading {
+        Some(reading) => Some(outline_of(reading)),
+        None => None,
+    };
+    Ok(RuleOutline {
+        place: rule.place,
+        conditions: copy_of(&rule.conditions)?,
+        pattern,
+        action: rule.action,
+    })
+}
+
+/// Returns the file as far as it is printed, and its rules.
+pub fn split(
+    alloc: Global,
+    file: FlexFile<'_>,
+) -> Result<(FileOutline<'_>, Vec<FlexRule>), AllocError> {
+    let FlexFile {
+        text,
+        declared,
+        rules,
+        functions,
+    } = file;
+    let FlexRules {
+        first_code,
+        list,
+        code,
+    } = rules;
+    let mut outlines = Vec::new(alloc);
+    for rule in list.as_slice() {
+        outlines.push(rule_outline(rule)?)?;
+    }
+    let outline = FileOutline {
+        text,
+        declared,
+        first_code,
+        rules: outlines,
+        code,
+        functions,
+    };
+    Ok((outline, list))
+}
+
+impl FileOutline<'_> {
+    /// Returns true if the C of a rule's action has this word. Comments and texts in quotes don't count.
+    pub fn rule_has(&self, rule: &RuleOutline, word: &[u8]) -> bool {
+        match rule.action {
+            RuleAction::Code(code) => has_word(code.of(self.text), word),
+            RuleAction::Bar => false,
+        }
+    }
+
+    /// Returns true if the C of an action, or that before the first rule, has this word. Comments and texts in quotes don't count.
+    pub fn actions_have(&self, word: &[u8]) -> bool {
+        for rule in self.rules.as_slice() {
+            if self.rule_has(rule, word) {
+                return true;
+            }
+        }
+        for code in self.first_code.as_slice() {
+            if has_word(code.of(self.text), word) {
+                return true;
+            }
+        }
+        false
+    }
+
+    /// Returns true if a rule has to begin at the start of a line.
+    pub fn has_line_begin(&self) -> bool {
+        for rule in self.rules.as_slice() {
+            if let Some(pattern) = rule.pattern {
+                if pattern.line_begin {
+                    return true;
+                }
+            }
+        }
+        false
+    }
+
+    /// Returns true if a rule has trailing context, and both parts have texts of several lengths.
+    pub fn has_varying_cut(&self) -> bool {
+        for rule in self.rules.as_slice() {
+            if let Some(pattern) = rule.pattern {
+                if is_varying(pattern.cut) {
+                    return true;
+                }
+            }
+        }
+        false
+    }
+
+    /// Returns true if a rule has trailing context.
+    pub fn has_cut(&self) -> bool {
+        for rule in self.rules.as_slice() {
+            if let Some(pattern) = rule.pattern {
+                if pattern.cut != MatchCut::Whole {
+                    return true;
+                }
+            }
+        }
+        false
+    }
+}

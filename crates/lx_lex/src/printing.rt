@@ -1,0 +1,484 @@
+//! A scanner in C and its header, as texts.
+
+ghost use Rattle.std.specs.Prelude.{IfOk, ◌++◌, ◌≡◌};
+ghost use Rattle.lx_lex.specs.Arrays.{HasArrays};
+
+use crate::actions::{CodePlaces, push_actions};
+use crate::arrays::{arrays_of, classes_and_rows_of, lines_in, start_row};
+use crate::outline::{FileOutline, MatchCut};
+use crate::skeleton_calls::{
+    ACCESS, ACCESS_LINES, CREATE, DELETE, DESTROY, FATAL, MAIN, MEMORY, POSITION, SCAN, SCAN_BYTES,
+    SCAN_STRING, STATES, SWITCH,
+};
+use crate::skeleton_head::{
+    BUFFERS, CLOSING, GUTS, HEADER_TYPES, HELPERS, INTERFACE, M4, MACROS, NAMES, NAMES_2, OPENING,
+    SYSTEM, TEXT_MACROS, TYPES, VARIABLES,
+};
+use crate::skeleton_scan::{
+    ACCEPT, CUT, END_OF_FILE, GROW, INPUT, READ, REFILL, STEPS, TAKE, UNPUT, WALK, YYLEX, YYLEX_END,
+};
+use crate::source_names::SourceName;
+use crate::template::{Environment, Output, push_template};
+use lx_c::pushing::push_number_then;
+use lx_tables::Tables;
+use std::alloc::{AllocError, Global};
+
+/// What a scanner is printed for.
+#[derive(Clone, Copy)]
+pub struct PrintOptions<'a> {
+    /// Files that the text was read of.
+    pub sources: &'a [SourceName<'a>],
+    /// Name of the printed file, for `#line`.
+    pub printed: &'a [u8],
+    /// Macros of `-D`, each a name or `name=value`.
+    pub macros: &'a [&'a str],
+}
+
+/// Returns the options of a file, as its templates ask for them.
+fn environment_of<'a>(
+    alloc: Global,
+    outline: &'a FileOutline<'_>,
+    in_header: bool,
+) -> Result<Environment<'a>, AllocError> {
+    let options = &outline.declared.options;
+    let prefix = options.value_of(b"prefix").unwrap_or(b"yy");
+    let mut environment = Environment::new(alloc, prefix);
+    for word in options.words_on(alloc)? {
+        environment.add(word, true)?;
+    }
+    environment.add(b"in-header", in_header)?;
+    environment.add(b"prefix", prefix != b"yy".as_slice())?;
+    environment.add(b"bol", outline.has_line_begin())?;
+    environment.add(b"cut", outline.has_cut())?;
+    let joins = outline.actions_have(b"yymore") && options.place_of(b"yymore").is_none();
+    environment.add(b"yymore", joins)?;
+    Ok(environment)
+}
+
+/// Appends templates, one after the other.
+fn push_all(
+    alloc: Global,
+    output: &mut Output,
+    environment: &Environment,
+    templates: &[&[u8]],
+) -> Result<(), AllocError> {
+    for template in templates {
+        push_template(alloc, output, environment, template)?;
+    }
+    Ok(())
+}
+
+/// Appends templates if an option is on.
+fn push_if(
+    alloc: Global,
+    output: &mut Output,
+    environment: &Environment,
+    word: &[u8],
+    templates: &[&[u8]],
+) -> Result<(), AllocError> {
+    if environment.has(word) {
+        push_all(alloc, output, environment, templates)?;
+    }
+    Ok(())
+}
+
+/// Appends a macro with a number.
+fn push_define(output: &mut Output, name: &[u8], number: u64) -> Result<(), AllocError> {
+    output.push(b"#define ")?;
+    output.push(name)?;
+    output.push(b" ")?;
+    push_number_then(&mut output.text, number, b"\n")
+}
+
+/// Appends the macros of `-D`. One without a value is 1.
+fn push_macros(output: &mut Output, macros: &[&str]) -> Result<(), AllocError> {
+    for text in macros {
+        output.push(b"#define ")?;
+        let mut has_value = false;
+        for byte in text.as_bytes() {
+            let ends_name = *byte == b'=' && !has_value;
+            has_value = has_value || ends_name;
+            output.push(&[if ends_name { b' ' } else { *byte }])?;
+        }
+        output.push(if has_value { b"\n" } else { b" 1\n" })?;
+    }
+    Ok(())
+}
+
+/// Appends the type of `yyextra`, if the file names one.
+fn push_extra_type(output: &mut Output, outline: &FileOutline) -> Result<(), AllocError> {
+    match outline.declared.options.value_of(b"extra-type") {
+        Some(name) => {
+            output.push(b"#define YY_EXTRA_TYPE ")?;
+            output.push(name)?;
+            output.push(b"\n")
+        }
+        None => Ok(()),
+    }
+}
+
+/// Appends a macro for each start condition.
+fn push_conditions(output: &mut Output, outline: &FileOutline) -> Result<(), AllocError> {
+    let mut number: u64 = 0;
+    for condition in outline.declared.conditions.as_slice() {
+        push_define(output, condition.name.as_slice(), number)?;
+        number = number.saturating_add(1);
+    }
+    Ok(())
+}
+
+/// Appends the numbers that the arrays are read by.
+fn push_table_macros(output: &mut Output, tables: &Tables) -> Result<(), AllocError> {
+    let classes = u64::from(tables.classes());
+    output.push(b"\n")?;
+    push_define(output, b"YY_DEFAULT_RULE", u64::from(tables.rules()) + 1)?;
+    output.push(
+        b"#define YY_NUM_RULES YY_DEFAULT_RULE\n#define YY_END_OF_BUFFER (YY_DEFAULT_RULE + 1)\n",
+    )?;
+    output.push(b"#define YY_STATE_EOF(state) (YY_END_OF_BUFFER + (state) + 1)\n\n")?;
+    push_define(output, b"YY_NUL_CLASS", u64::from(tables.class(0)))?;
+    push_define(output, b"YY_RULE_COLUMN", classes)?;
+    push_define(output, b"YY_END_CLASS", classes + 1)?;
+    push_define(output, b"YY_ROW_WIDTH", classes + 2)
+}
+
+/// Appends the array of the rules whose tokens may have newlines. The default rule's token may be one.
+fn push_newlines(output: &mut Output, outline: &FileOutline) -> Result<(), AllocError> {
+    output.push(b"static const unsigned char yy_newline[] = {\n0,")?;
+    for rule in outline.rules.as_slice() {
+        if let Some(pattern) = rule.pattern {
+            output.push(if pattern.has_newline { b"1," } else { b"0," })?;
+        }
+    }
+    output.push(b"1};\n")
+}
+
+/// Appends the array of the lines of rules, for traces.
+fn push_rule_lines(output: &mut Output, outline: &FileOutline) -> Result<(), AllocError> {
+    output.push(b"static const int yy_rule_linenum[] = {\n0,")?;
+    for rule in outline.rules.as_slice() {
+        if rule.pattern.is_some() {
+            push_number_then(&mut output.text, u64::from(rule.place.line), b",")?;
+        }
+    }
+    output.push(b"0};\n")
+}
+
+/// Appends the arrays of what rules may match.
+fn push_rule_arrays(
+    output: &mut Output,
+    environment: &Environment,
+    outline: &FileOutline,
+) -> Result<(), AllocError> {
+    if environment.has(b"yylineno") {
+        push_newlines(output, outline)?;
+    }
+    if environment.has(b"debug") {
+        push_rule_lines(output, outline)?;
+    }
+    output.push(b"\n")
+}
+
+/// Appends the arrays that find the end of a token with trailing context of several lengths.
+fn push_cut_tables(alloc: Global, output: &mut Output, tables: &Tables) -> Result<(), AllocError> {
+    output.push(b"\n")?;
+    push_define(output, b"YY_CUT_NUL_CLASS", u64::from(tables.class(0)))?;
+    push_define(output, b"YY_CUT_RULE_COLUMN", u64::from(tables.classes()))?;
+    let arrays = classes_and_rows_of(alloc, tables, b"yy_cut_")?;
+    output.push(arrays.as_slice())
+}
+
+/// Appends the case that cuts the match of a rule.
+fn push_fixed_cut(
+    output: &mut Output,
+    number: u64,
+    how: &[u8],
+    length: u32,
+) -> Result<(), AllocError> {
+    output.push(b"            case ")?;
+    push_number_then(&mut output.text, number, how)?;
+    push_number_then(&mut output.text, u64::from(length), b"; break;\n")
+}
+
+/// Appends the case that looks for the end of a rule's token. Its parts begin in two conditions of the cut's tables, from this one on.
+fn push_varying_cut(
+    output: &mut Output,
+    environment: &Environment,
+    number: u64,
+    condition: u16,
+    tables: &Tables,
+    can_be_empty: (bool, bool),
+) -> Result<(), AllocError> {
+    output.push(b"            case ")?;
+    push_number_then(
+        &mut output.text,
+        number,
+        b": yy_cp = yy_cut_match(yy_bp, yy_cp, ",
+    )?;
+    push_number_then(&mut output.text, start_row(tables, condition), b", ")?;
+    let context = condition.saturating_add(1);
+    push_number_then(&mut output.text, start_row(tables, context), b", ")?;
+    output.push(if can_be_empty.0 { b"1, " } else { b"0, " })?;
+    output.push(if can_be_empty.1 { b"1" } else { b"0" })?;
+    output.push(if environment.has(b"reentrant") {
+        b", yyscanner"
+    } else {
+        b""
+    })?;
+    output.push(b"); break;\n")
+}
+
+/// Appends the cases that cut trailing context off.
+fn push_cuts(
+    output: &mut Output,
+    environment: &Environment,
+    outline: &FileOutline,
+    cut_tables: Option<&Tables>,
+) -> Result<(), AllocError> {
+    output.push(
+        b"            switch (yy_act) { /* The token ends before its trailing context. */\n",
+    )?;
+    let mut number: u64 = 0;
+    let mut condition: u16 = 1;
+    for rule in outline.rules.as_slice() {
+        let Some(pattern) = rule.pattern else {
+            continue;
+        };
+        number = number.saturating_add(1);
+        match pattern.cut {
+            MatchCut::Whole => {}
+            MatchCut::Before(length) => push_fixed_cut(output, number, b": yy_cp -= ", length)?,
+            MatchCut::First(length) => {
+                push_fixed_cut(output, number, b": yy_cp = yy_bp + ", length)?
+            }
+            MatchCut::Varying { token, context } => {
+                if let Some(tables) = cut_tables {
+                    let can_be_empty = (token, context);
+                    push_varying_cut(output, environment, number, condition, tables, can_be_empty)?;
+                }
+                condition = condition.saturating_add(2);
+            }
+        }
+    }
+    output.push(b"            }\n")
+}
+
+/// Appends the part of a scanner before the arrays of its automaton.
+fn push_head(
+    alloc: Global,
+    output: &mut Output,
+    environment: &Environment,
+    outline: &FileOutline,
+    tables: &Tables,
+    options: PrintOptions,
+    places: CodePlaces,
+) -> Result<(), AllocError> {
+    places.push_all_code(output, outline.declared.top.as_slice())?;
+    push_template(alloc, output, environment, OPENING)?;
+    push_macros(output, options.macros)?;
+    push_if(alloc, output, environment, b"prefix", &[NAMES, NAMES_2])?;
+    push_template(alloc, output, environment, SYSTEM)?;
+    push_all(
+        alloc,
+        output,
+        environment,
+        &[TYPES, BUFFERS, MACROS, TEXT_MACROS, VARIABLES],
+    )?;
+    push_table_macros(output, tables)
+}
+
+/// Appends the user's declarations, and the start conditions.
+fn push_declarations(
+    alloc: Global,
+    output: &mut Output,
+    environment: &Environment,
+    outline: &FileOutline,
+    cut_tables: Option<&Tables>,
+    places: CodePlaces,
+) -> Result<(), AllocError> {
+    push_rule_arrays(output, environment, outline)?;
+    if let Some(tables) = cut_tables {
+        push_cut_tables(alloc, output, tables)?;
+    }
+    push_extra_type(output, outline)?;
+    places.push_all_code(output, outline.declared.code.as_slice())?;
+    output.push(b"\n")?;
+    push_conditions(output, outline)?;
+    output.push(b"\n")
+}
+
+/// Appends the function `yylex` and what it needs.
+fn push_yylex(
+    alloc: Global,
+    output: &mut Output,
+    environment: &Environment,
+    outline: &FileOutline,
+    cut_tables: Option<&Tables>,
+    places: CodePlaces,
+) -> Result<(), AllocError> {
+    push_all(
+        alloc,
+        output,
+        environment,
+        &[GUTS, INTERFACE, HELPERS, READ, STEPS],
+    )?;
+    if cut_tables.is_some() {
+        push_template(alloc, output, environment, CUT)?;
+    }
+    push_template(alloc, output, environment, YYLEX)?;
+    places.push_all_code(output, outline.first_code.as_slice())?;
+    push_all(alloc, output, environment, &[WALK, END_OF_FILE, ACCEPT])?;
+    if outline.has_cut() {
+        push_cuts(output, environment, outline, cut_tables)?;
+    }
+    push_template(alloc, output, environment, TAKE)?;
+    push_actions(alloc, output, places, outline)?;
+    push_all(alloc, output, environment, &[YYLEX_END, GROW, REFILL])?;
+    push_if(alloc, output, environment, b"unput", &[UNPUT])?;
+    push_if(alloc, output, environment, b"input", &[INPUT])
+}
+
+/// Appends the functions of the interface.
+fn push_calls(
+    alloc: Global,
+    output: &mut Output,
+    environment: &Environment,
+) -> Result<(), AllocError> {
+    push_all(
+        alloc,
+        output,
+        environment,
+        &[POSITION, CREATE, SWITCH, DELETE],
+    )?;
+    let strings = environment.has(b"yy_scan_string");
+    let bytes = strings || environment.has(b"yy_scan_bytes");
+    if bytes || environment.has(b"yy_scan_buffer") {
+        push_template(alloc, output, environment, SCAN)?;
+    }
+    if bytes {
+        push_template(alloc, output, environment, SCAN_BYTES)?;
+    }
+    if strings {
+        push_template(alloc, output, environment, SCAN_STRING)?;
+    }
+    push_if(alloc, output, environment, b"stack", &[STATES])?;
+    push_all(
+        alloc,
+        output,
+        environment,
+        &[FATAL, ACCESS, ACCESS_LINES, DESTROY, MEMORY],
+    )?;
+    push_if(alloc, output, environment, b"main", &[MAIN])?;
+    push_if(
+        alloc,
+        output,
+        environment,
+        b"unsafe-no-m4-sect3-escape",
+        &[M4],
+    )
+}
+
+/// Returns where the C text of a file comes from and goes to.
+fn places_of<'a>(
+    outline: &FileOutline<'a>,
+    environment: &Environment,
+    options: PrintOptions<'a>,
+) -> CodePlaces<'a> {
+    CodePlaces {
+        text: outline.text,
+        sources: options.sources,
+        printed: options.printed,
+        with_lines: environment.has(b"line"),
+    }
+}
+
+/// Returns the part of a scanner after the arrays of its automaton, which begins after a number of lines.
+fn rest_of(
+    alloc: Global,
+    environment: &Environment,
+    outline: &FileOutline,
+    cut_tables: Option<&Tables>,
+    places: CodePlaces,
+    lines: u32,
+) -> Result<Output, AllocError> {
+    let mut output = Output::after(alloc, lines);
+    push_declarations(alloc, &mut output, environment, outline, cut_tables, places)?;
+    push_yylex(alloc, &mut output, environment, outline, cut_tables, places)?;
+    push_calls(alloc, &mut output, environment)?;
+    if !outline.functions.of(outline.text).is_empty() {
+        places.push_code(&mut output, outline.functions)?;
+    }
+    Ok(output)
+}
+
+/// Joins the parts of a scanner.
+fn joined(head: Output, arrays: &[u8], rest: &Output) -> Result<Vec<u8>, AllocError>
+    ensures { IfOk result (λ text.
+        text.items ≡ head.text.items ++ (arrays.now ++ rest.now.text.items)) }
+{
+    let Output { text, .. } = head;
+    let mut text = text;
+    text.extend_from_slice(arrays)?;
+    text.extend_from_slice(rest.text.as_slice())?;
+    Ok(text)
+}
+
+/// Returns a scanner in C of a file and the tables of its rules. Its arrays are those of the automaton. `cut_tables` finds the ends of tokens with
+/// trailing context of several lengths.
+pub fn scanner_of<'a>(
+    alloc: Global,
+    outline: &FileOutline<'a>,
+    tables: &Tables,
+    cut_tables: Option<&Tables>,
+    options: PrintOptions<'a>,
+) -> Result<Vec<u8>, AllocError>
+    ensures { IfOk result (λ text. HasArrays tables.now text.items) }
+{
+    let environment = environment_of(alloc, outline, false)?;
+    let places = places_of(outline, &environment, options);
+    let mut head = Output::after(alloc, 0);
+    push_head(
+        alloc,
+        &mut head,
+        &environment,
+        outline,
+        tables,
+        options,
+        places,
+    )?;
+    let arrays = arrays_of(alloc, tables, b"yy_")?;
+    let lines = head
+        .line()
+        .saturating_sub(1)
+        .saturating_add(lines_in(arrays.as_slice()));
+    let rest = rest_of(alloc, &environment, outline, cut_tables, places, lines)?;
+    joined(head, arrays.as_slice(), &rest)
+}
+
+/// Returns the header of a scanner.
+pub fn header_of<'a>(
+    alloc: Global,
+    outline: &FileOutline<'a>,
+    options: PrintOptions<'a>,
+) -> Result<Vec<u8>, AllocError> {
+    let environment = environment_of(alloc, outline, true)?;
+    let places = places_of(outline, &environment, options);
+    let mut output = Output::after(alloc, 0);
+    places.push_all_code(&mut output, outline.declared.top.as_slice())?;
+    push_template(alloc, &mut output, &environment, OPENING)?;
+    push_macros(&mut output, options.macros)?;
+    push_all(alloc, &mut output, &environment, &[SYSTEM, TYPES])?;
+    push_extra_type(&mut output, outline)?;
+    push_all(
+        alloc,
+        &mut output,
+        &environment,
+        &[BUFFERS, HEADER_TYPES, INTERFACE],
+    )?;
+    output.push(b"\n#ifdef YY_HEADER_EXPORT_START_CONDITIONS\n")?;
+    push_conditions(&mut output, outline)?;
+    output.push(b"#endif\n")?;
+    push_template(alloc, &mut output, &environment, CLOSING)?;
+    let Output { text, .. } = output;
+    Ok(text)
+}

@@ -1,0 +1,682 @@
+//! The calls of the interface: buffers, start conditions, access and memory.
+
+pub(crate) const POSITION: &[u8] =
+    br#"/* Makes the scanner continue at the place of the current buffer. */
+static void yy_load_position(@p)
+{
+%if reentrant
+    struct yyguts_t *yyg = (struct yyguts_t *)yyscanner;
+%end
+    YY_BUFFER_STATE b = YY_CURRENT_BUFFER_LVALUE;
+
+    @gyy_n_chars = b->yy_n_chars;
+    @gyytext_ptr = @gyy_c_buf_p = b->yy_buf_pos;
+    @gyy_hold_char = *@gyy_c_buf_p;
+    yyin = b->yy_input_file;
+}
+
+/* Stores the place in the current buffer, if there is one. */
+static void yy_save_position(@p)
+{
+%if reentrant
+    struct yyguts_t *yyg = (struct yyguts_t *)yyscanner;
+%end
+
+    if (YY_CURRENT_BUFFER) {
+        *@gyy_c_buf_p = @gyy_hold_char;
+        YY_CURRENT_BUFFER_LVALUE->yy_buf_pos = @gyy_c_buf_p;
+        YY_CURRENT_BUFFER_LVALUE->yy_n_chars = @gyy_n_chars;
+    }
+}
+
+/* Makes room for one more buffer on the stack. */
+static void yy_make_stack_room(@p)
+{
+%if reentrant
+    struct yyguts_t *yyg = (struct yyguts_t *)yyscanner;
+%end
+    size_t size = @gyy_buffer_stack_max + 8;
+    YY_BUFFER_STATE *grown;
+
+    if (@gyy_buffer_stack_top + 1 < @gyy_buffer_stack_max)
+        return;
+    if (@gyy_buffer_stack)
+        grown = (YY_BUFFER_STATE *)yyrealloc(@gyy_buffer_stack, size * sizeof *grown@A);
+    else
+        grown = (YY_BUFFER_STATE *)yyalloc(size * sizeof *grown@A);
+    if (!grown)
+        YY_FATAL_ERROR("out of dynamic memory in yyensure_buffer_stack()");
+    @gyy_buffer_stack = grown;
+    while (@gyy_buffer_stack_max < size)
+        grown[@gyy_buffer_stack_max++] = NULL;
+}
+
+/* Makes a buffer for yyin if there is none. */
+static void yy_need_buffer(@p)
+{
+%if reentrant
+    struct yyguts_t *yyg = (struct yyguts_t *)yyscanner;
+%end
+
+    if (!YY_CURRENT_BUFFER) {
+        yy_make_stack_room(@a);
+        YY_CURRENT_BUFFER_LVALUE = yy_create_buffer(yyin, YY_BUF_SIZE@A);
+        yy_load_position(@a);
+    }
+}
+
+"#;
+
+pub(crate) const CREATE: &[u8] = br#"/* Empties a buffer and connects it with a file. */
+static void yy_attach_file(YY_BUFFER_STATE b, FILE *file@P)
+{
+%if reentrant
+    struct yyguts_t *yyg = (struct yyguts_t *)yyscanner;
+%end
+    int known_errno = errno;
+
+    b->yy_input_file = file;
+    b->yy_fill_buffer = 1;
+    yy_flush_buffer(b@A);
+    if (b != YY_CURRENT_BUFFER) { /* A file that follows another one in its buffer goes on counting. */
+        b->yy_bs_lineno = 1;
+        b->yy_bs_column = 0;
+    }
+%if always-interactive
+    b->yy_is_interactive = 1;
+%else
+%if never-interactive
+    b->yy_is_interactive = 0;
+%else
+    b->yy_is_interactive = file && isatty(fileno(file)) > 0;
+%end
+%end
+    errno = known_errno;
+}
+
+/* Returns a new buffer for yy_switch_to_buffer or yypush_buffer_state. */
+YY_BUFFER_STATE yy_create_buffer(FILE *file, int size@P)
+{
+    YY_BUFFER_STATE b = (YY_BUFFER_STATE)yyalloc(sizeof *b@A);
+
+    if (!b)
+        YY_FATAL_ERROR("out of dynamic memory in yy_create_buffer()");
+    b->yy_buf_size = size;
+    b->yy_is_our_buffer = 1;
+    b->yy_ch_buf = (char *)yyalloc((yy_size_t)size + 2@A);
+    if (!b->yy_ch_buf)
+        YY_FATAL_ERROR("out of dynamic memory in yy_create_buffer()");
+    yy_attach_file(b, file@A);
+    return b;
+}
+
+/* Empties the current buffer and connects it with another file. The start condition stays. */
+void yyrestart(FILE *input_file@P)
+{
+%if reentrant
+    struct yyguts_t *yyg = (struct yyguts_t *)yyscanner;
+%end
+
+    yy_need_buffer(@a);
+    yy_attach_file(YY_CURRENT_BUFFER_LVALUE, input_file@A);
+    yy_load_position(@a);
+}
+
+"#;
+
+pub(crate) const SWITCH: &[u8] =
+    br#"/* Makes another buffer the current one. The buffer before keeps its place. */
+void yy_switch_to_buffer(YY_BUFFER_STATE new_buffer@P)
+{
+%if reentrant
+    struct yyguts_t *yyg = (struct yyguts_t *)yyscanner;
+%end
+
+    if (YY_CURRENT_BUFFER == new_buffer)
+        return;
+    yy_save_position(@a);
+    yy_make_stack_room(@a);
+    YY_CURRENT_BUFFER_LVALUE = new_buffer;
+    if (new_buffer)
+        yy_load_position(@a);
+    @gyy_did_buffer_switch_on_eof = 1;
+}
+
+/* Makes another buffer the current one until it is popped. */
+void yypush_buffer_state(YY_BUFFER_STATE new_buffer@P)
+{
+%if reentrant
+    struct yyguts_t *yyg = (struct yyguts_t *)yyscanner;
+%end
+
+    if (!new_buffer)
+        return;
+    yy_save_position(@a);
+    yy_make_stack_room(@a);
+    if (YY_CURRENT_BUFFER_LVALUE)
+        ++@gyy_buffer_stack_top;
+    YY_CURRENT_BUFFER_LVALUE = new_buffer;
+    yy_load_position(@a);
+    @gyy_did_buffer_switch_on_eof = 1;
+}
+
+/* Deletes the current buffer and returns to the one below it. */
+void yypop_buffer_state(@p)
+{
+%if reentrant
+    struct yyguts_t *yyg = (struct yyguts_t *)yyscanner;
+%end
+
+    if (!YY_CURRENT_BUFFER)
+        return;
+    yy_delete_buffer(YY_CURRENT_BUFFER_LVALUE@A);
+    if (@gyy_buffer_stack_top > 0)
+        --@gyy_buffer_stack_top;
+    if (YY_CURRENT_BUFFER_LVALUE) {
+        yy_load_position(@a);
+        @gyy_did_buffer_switch_on_eof = 1;
+    }
+}
+
+"#;
+
+pub(crate) const DELETE: &[u8] = br#"/* Frees a buffer. */
+void yy_delete_buffer(YY_BUFFER_STATE b@P)
+{
+%if reentrant
+    struct yyguts_t *yyg = (struct yyguts_t *)yyscanner;
+%end
+
+    if (!b)
+        return;
+    if (b == YY_CURRENT_BUFFER)
+        YY_CURRENT_BUFFER_LVALUE = NULL;
+    if (b->yy_is_our_buffer)
+        yyfree(b->yy_ch_buf@A);
+    yyfree(b@A);
+}
+
+/* Drops the text of a buffer, so that the next match reads its file. */
+void yy_flush_buffer(YY_BUFFER_STATE b@P)
+{
+%if reentrant
+    struct yyguts_t *yyg = (struct yyguts_t *)yyscanner;
+%end
+
+    if (!b)
+        return;
+    b->yy_n_chars = 0;
+    b->yy_ch_buf[0] = b->yy_ch_buf[1] = YY_END_OF_BUFFER_CHAR;
+    b->yy_buf_pos = b->yy_ch_buf;
+    b->yy_at_bol = 1;
+    b->yy_buffer_status = YY_BUFFER_NEW;
+    if (b == YY_CURRENT_BUFFER)
+        yy_load_position(@a);
+}
+
+"#;
+
+pub(crate) const SCAN: &[u8] = br#"%if yy_scan_buffer
+/* Makes a buffer of size bytes that stay where they are. Returns NULL if the last two aren't NUL. */
+YY_BUFFER_STATE yy_scan_buffer(char *base, yy_size_t size@P)
+%else
+/* Makes a buffer of size bytes that stay where they are. Returns NULL if the last two aren't NUL. */
+static YY_BUFFER_STATE yy_scan_in_place(char *base, yy_size_t size@P)
+%end
+{
+    YY_BUFFER_STATE b;
+
+    if (size < 2 || base[size - 2] != YY_END_OF_BUFFER_CHAR || base[size - 1] != YY_END_OF_BUFFER_CHAR)
+        return NULL;
+    b = (YY_BUFFER_STATE)yyalloc(sizeof *b@A);
+    if (!b)
+        YY_FATAL_ERROR("out of dynamic memory in yy_scan_buffer()");
+    memset(b, 0, sizeof *b);
+    b->yy_ch_buf = b->yy_buf_pos = base;
+    b->yy_buf_size = b->yy_n_chars = (int)(size - 2);
+    b->yy_at_bol = 1;
+    b->yy_bs_lineno = 1;
+    b->yy_buffer_status = YY_BUFFER_NEW;
+    yy_switch_to_buffer(b@A);
+    return b;
+}
+
+"#;
+
+pub(crate) const SCAN_BYTES: &[u8] = br#"/* Makes a buffer with a copy of some bytes. */
+%if yy_scan_bytes
+YY_BUFFER_STATE yy_scan_bytes(const char *bytes, int length@P)
+%else
+static YY_BUFFER_STATE yy_scan_copy(const char *bytes, int length@P)
+%end
+{
+    char *copy = (char *)yyalloc((yy_size_t)length + 2@A);
+    YY_BUFFER_STATE b;
+
+    if (!copy)
+        YY_FATAL_ERROR("out of dynamic memory in yy_scan_bytes()");
+    if (length > 0)
+        memcpy(copy, bytes, (size_t)length);
+    copy[length] = copy[length + 1] = YY_END_OF_BUFFER_CHAR;
+%if yy_scan_buffer
+    b = yy_scan_buffer(copy, (yy_size_t)length + 2@A);
+%else
+    b = yy_scan_in_place(copy, (yy_size_t)length + 2@A);
+%end
+    if (!b)
+        YY_FATAL_ERROR("bad buffer in yy_scan_bytes()");
+    b->yy_is_our_buffer = 1;
+    return b;
+}
+
+"#;
+
+pub(crate) const SCAN_STRING: &[u8] = br#"/* Makes a buffer with a copy of a string. */
+YY_BUFFER_STATE yy_scan_string(const char *text@P)
+{
+%if yy_scan_bytes
+    return yy_scan_bytes(text, (int)strlen(text)@A);
+%else
+    return yy_scan_copy(text, (int)strlen(text)@A);
+%end
+}
+
+"#;
+
+pub(crate) const STATES: &[u8] = br#"%if yy_push_state
+/* Enters a start condition, from which yy_pop_state leads back. */
+static void yy_push_state(int new_state@P)
+{
+%if reentrant
+    struct yyguts_t *yyg = (struct yyguts_t *)yyscanner;
+%end
+
+    if (@gyy_start_stack_ptr >= @gyy_start_stack_depth) {
+        int depth = @gyy_start_stack_depth + YY_START_STACK_INCR;
+        yy_size_t size = (yy_size_t)depth * sizeof(int);
+        int *grown = (int *)(@gyy_start_stack ? yyrealloc(@gyy_start_stack, size@A) : yyalloc(size@A));
+
+        if (!grown)
+            YY_FATAL_ERROR("out of memory expanding start-condition stack");
+        @gyy_start_stack = grown;
+        @gyy_start_stack_depth = depth;
+    }
+    @gyy_start_stack[@gyy_start_stack_ptr++] = YY_START;
+    BEGIN(new_state);
+}
+
+%end
+%if yy_pop_state
+/* Goes back to the start condition that was left last by yy_push_state. */
+static void yy_pop_state(@p)
+{
+%if reentrant
+    struct yyguts_t *yyg = (struct yyguts_t *)yyscanner;
+%end
+
+    if (@gyy_start_stack_ptr <= 0)
+        YY_FATAL_ERROR("start-condition stack underflow");
+    --@gyy_start_stack_ptr;
+    BEGIN(@gyy_start_stack[@gyy_start_stack_ptr]);
+}
+
+%end
+%if yy_top_state
+/* Returns the start condition that yy_pop_state would go back to. */
+static int yy_top_state(@p)
+{
+%if reentrant
+    struct yyguts_t *yyg = (struct yyguts_t *)yyscanner;
+%end
+
+    return @gyy_start_stack[@gyy_start_stack_ptr - 1];
+}
+
+%end
+"#;
+
+pub(crate) const FATAL: &[u8] = br#"/* Prints a message and ends the program. */
+static void yy_fatal_error(const char *message@P)
+{
+%if reentrant
+    (void)yyscanner;
+%end
+    fprintf(stderr, "%s\n", message);
+    exit(YY_EXIT_FAILURE);
+}
+
+"#;
+
+pub(crate) const ACCESS: &[u8] = br#"%if yyget_debug
+int yyget_debug(@p)
+{
+%if reentrant
+    struct yyguts_t *yyg = (struct yyguts_t *)yyscanner;
+%end
+    return yy_flex_debug;
+}
+
+%end
+%if yyset_debug
+void yyset_debug(int debug_flag@P)
+{
+%if reentrant
+    struct yyguts_t *yyg = (struct yyguts_t *)yyscanner;
+%end
+    yy_flex_debug = debug_flag;
+}
+
+%end
+%if yyget_in
+FILE *yyget_in(@p)
+{
+%if reentrant
+    struct yyguts_t *yyg = (struct yyguts_t *)yyscanner;
+%end
+    return yyin;
+}
+
+%end
+%if yyset_in
+/* Sets the file to be read next. Text that is in the buffer is scanned first. */
+void yyset_in(FILE *in@P)
+{
+%if reentrant
+    struct yyguts_t *yyg = (struct yyguts_t *)yyscanner;
+%end
+    yyin = in;
+}
+
+%end
+%if yyget_out
+FILE *yyget_out(@p)
+{
+%if reentrant
+    struct yyguts_t *yyg = (struct yyguts_t *)yyscanner;
+%end
+    return yyout;
+}
+
+%end
+%if yyset_out
+void yyset_out(FILE *out@P)
+{
+%if reentrant
+    struct yyguts_t *yyg = (struct yyguts_t *)yyscanner;
+%end
+    yyout = out;
+}
+
+%end
+%if yyget_leng
+int yyget_leng(@p)
+{
+%if reentrant
+    struct yyguts_t *yyg = (struct yyguts_t *)yyscanner;
+%end
+    return yyleng;
+}
+
+%end
+%if yyget_text
+char *yyget_text(@p)
+{
+%if reentrant
+    struct yyguts_t *yyg = (struct yyguts_t *)yyscanner;
+%end
+    return yytext;
+}
+
+%end
+"#;
+
+pub(crate) const ACCESS_LINES: &[u8] = br#"%if yyget_lineno
+int yyget_lineno(@p)
+{
+%if reentrant
+    struct yyguts_t *yyg = (struct yyguts_t *)yyscanner;
+    return YY_CURRENT_BUFFER ? yylineno : 0;
+%else
+    return yylineno;
+%end
+}
+
+%end
+%if yyset_lineno
+void yyset_lineno(int line_number@P)
+{
+%if reentrant
+    struct yyguts_t *yyg = (struct yyguts_t *)yyscanner;
+    if (!YY_CURRENT_BUFFER)
+        YY_FATAL_ERROR("yyset_lineno called with no buffer");
+%end
+    yylineno = line_number;
+}
+
+%end
+%if reentrant
+%if yyget_column
+int yyget_column(@p)
+{
+    struct yyguts_t *yyg = (struct yyguts_t *)yyscanner;
+    return YY_CURRENT_BUFFER ? yycolumn : 0;
+}
+
+%end
+%if yyset_column
+void yyset_column(int column@P)
+{
+    struct yyguts_t *yyg = (struct yyguts_t *)yyscanner;
+    if (!YY_CURRENT_BUFFER)
+        YY_FATAL_ERROR("yyset_column called with no buffer");
+    yycolumn = column;
+}
+
+%end
+%if yyget_extra
+YY_EXTRA_TYPE yyget_extra(@p)
+{
+    struct yyguts_t *yyg = (struct yyguts_t *)yyscanner;
+    return yyextra;
+}
+
+%end
+%if yyset_extra
+void yyset_extra(YY_EXTRA_TYPE extra@P)
+{
+    struct yyguts_t *yyg = (struct yyguts_t *)yyscanner;
+    yyextra = extra;
+}
+
+%end
+%if bison-bridge
+%if yyget_lval
+YYSTYPE *yyget_lval(@p)
+{
+    struct yyguts_t *yyg = (struct yyguts_t *)yyscanner;
+    return yylval;
+}
+
+%end
+%if yyset_lval
+void yyset_lval(YYSTYPE *value@P)
+{
+    struct yyguts_t *yyg = (struct yyguts_t *)yyscanner;
+    yylval = value;
+}
+
+%end
+%end
+%if bison-locations
+%if yyget_lloc
+YYLTYPE *yyget_lloc(@p)
+{
+    struct yyguts_t *yyg = (struct yyguts_t *)yyscanner;
+    return yylloc;
+}
+
+%end
+%if yyset_lloc
+void yyset_lloc(YYLTYPE *location@P)
+{
+    struct yyguts_t *yyg = (struct yyguts_t *)yyscanner;
+    yylloc = location;
+}
+
+%end
+%end
+%end
+"#;
+
+pub(crate) const DESTROY: &[u8] = br#"%if reentrant
+/* Makes a scanner with a value for yyextra, which yyalloc may already ask for. Returns 0, or 1 with errno set. */
+int yylex_init_extra(YY_EXTRA_TYPE extra, yyscan_t *scanner)
+{
+    struct yyguts_t asker, *yyg;
+
+    if (!scanner) {
+        errno = EINVAL;
+        return 1;
+    }
+    memset(&asker, 0, sizeof asker);
+    asker.yyextra_r = extra;
+    yyg = (struct yyguts_t *)yyalloc(sizeof *yyg, &asker);
+    *scanner = yyg;
+    if (!yyg) {
+        errno = ENOMEM;
+        return 1;
+    }
+    memset(yyg, 0, sizeof *yyg);
+    yyextra = extra;
+    yyg->yy_start = 1;
+%if stdinit
+    yyin = stdin;
+    yyout = stdout;
+%end
+    return 0;
+}
+
+/* Makes a scanner. Returns 0, or 1 with errno set. */
+int yylex_init(yyscan_t *scanner)
+{
+    struct yyguts_t *yyg;
+
+    if (!scanner) {
+        errno = EINVAL;
+        return 1;
+    }
+    yyg = (struct yyguts_t *)yyalloc(sizeof *yyg, NULL);
+    *scanner = yyg;
+    if (!yyg) {
+        errno = ENOMEM;
+        return 1;
+    }
+    memset(yyg, 0, sizeof *yyg);
+    yyg->yy_start = 1;
+%if stdinit
+    yyin = stdin;
+    yyout = stdout;
+%end
+    return 0;
+}
+
+/* Frees the scanner and its buffers. */
+%else
+/* Frees all buffers and resets the scanner for a new first call. */
+%end
+int yylex_destroy(@p)
+{
+%if reentrant
+    struct yyguts_t *yyg = (struct yyguts_t *)yyscanner;
+%end
+
+    while (YY_CURRENT_BUFFER)
+        yypop_buffer_state(@a);
+    if (@gyy_buffer_stack)
+        yyfree(@gyy_buffer_stack@A);
+%if stack
+    if (@gyy_start_stack)
+        yyfree(@gyy_start_stack@A);
+%end
+%if reentrant
+    yyfree(yyg, yyscanner);
+%else
+    yy_buffer_stack = NULL;
+    yy_buffer_stack_top = yy_buffer_stack_max = 0;
+%if stack
+    yy_start_stack = NULL;
+    yy_start_stack_ptr = yy_start_stack_depth = 0;
+%end
+    yy_c_buf_p = NULL;
+    yy_init = 0;
+    yy_start = 1;
+%if yymore
+%if array
+    yy_more_offset = yy_prev_more_offset = 0;
+%else
+    yy_more_flag = 0;
+%end
+%end
+%if yylineno
+    yylineno = 1;
+%end
+%if stdinit
+    yyin = stdin;
+    yyout = stdout;
+%else
+    yyin = yyout = NULL;
+%end
+%end
+    return 0;
+}
+
+"#;
+
+pub(crate) const MEMORY: &[u8] = br#"%if yyalloc
+void *yyalloc(yy_size_t size@P)
+{
+%if reentrant
+    (void)yyscanner;
+%end
+    return malloc(size);
+}
+
+%end
+%if yyrealloc
+void *yyrealloc(void *block, yy_size_t size@P)
+{
+%if reentrant
+    (void)yyscanner;
+%end
+    return realloc(block, size);
+}
+
+%end
+%if yyfree
+void yyfree(void *block@P)
+{
+%if reentrant
+    (void)yyscanner;
+%end
+    free(block);
+}
+
+%end
+"#;
+
+pub(crate) const MAIN: &[u8] = br#"int main(void)
+{
+%if reentrant
+    yyscan_t scanner;
+
+    if (yylex_init(&scanner) != 0)
+        return 1;
+    yylex(scanner);
+    yylex_destroy(scanner);
+%else
+    yylex();
+%end
+    return 0;
+}
+
+"#;
