@@ -115,7 +115,7 @@ class FirstMinute(Case):
         status, printed, said = self.start("run", "a", path=path)
         self.expect("the program that was built starts", (status, printed), (0, "built: run a\n"))
         self.check("why it is built", said.startswith("lx: not built yet, and the released one was made of other sources: proving and building it\n"), said)
-        self.check("how far it is", re.search(r"^build: 2 of 25 crates after 0\.0 minutes; now \w+", said, re.M), said)
+        self.check("how far it is", re.search(r"^build: 2 of \d+ crates after 0\.0 minutes; now \w+", said, re.M), said)
         self.expect("the second start", self.start("run", "b", path=path), (0, "built: run b\n", ""))
         status, printed, said = self.start("--build", path=path)
         self.expect("a build in any case starts nothing", (status, printed), (0, ""))

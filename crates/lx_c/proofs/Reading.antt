@@ -29,14 +29,14 @@ digits_read n (c ∷ ds) behind d =
     let digit : is_ascii_digit c ≡ true = parts.0 in
     rw digit (digits_read (10 * n + (c - 48)) ds behind parts.1)
 
-entry_read : (n : ℕ) (behind : List ℕ) → n < 4294967296 → read_words 0 (entry_text n ++ behind) ≡ n ∷ read_words 0 behind
+pub entry_read : (n : ℕ) (behind : List ℕ) → n < 4294967296 → read_words 0 (entry_text n ++ behind) ≡ n ∷ read_words 0 behind
 entry_read n behind small =
     let value : read_on 0 (decimal n) ≡ n = digits_value-decimal own n (omega arith) in
     ap (λ bs. read_words 0 bs) (append_assoc (decimal n) (44 ∷ []) behind)
     ∙ (digits_read 0 (decimal n) behind (digits_decimal own n (omega arith)) ∙ ap (λ (v : ℕ). v ∷ read_words 0 behind) value)
 
 -- n entries, from number a on
-entries_read : (word : ℕ → ℕ) (a n : ℕ) (behind : List ℕ) → ((k : ℕ) → k < a + n → word k < 4294967296) →
+pub entries_read : (word : ℕ → ℕ) (a n : ℕ) (behind : List ℕ) → ((k : ℕ) → k < a + n → word k < 4294967296) →
     read_words 0 (flat_map (λ k. entry_text (word k)) (range_with_len a n) ++ behind) ≡ map word (range_with_len a n) ++ read_words 0 behind
 entries_read word a zero behind small = refl
 entries_read word a (suc n) behind small =

@@ -18,7 +18,9 @@ pub(crate) fn command<'a>(alloc: Global) -> Result<Command<'a>, AllocError>
     let command = Command::new(alloc, "lx")
         .about("Scans files by the rules of a lex specification.")
         .version(VERSION)
-        .after_help("Without words, lists a text that the program holds by rules that it holds.")
+        .after_help(
+            "lx flex FILE.. and lx lex FILE.. print scanners in C of files for flex and lex, with the C code of their actions; lx flex --help has more.\nWithout words, lists a text that the program holds by rules that it holds.",
+        )
         .disable_help_subcommand(true)
         .subcommand_required(true);
     with_subcommands(alloc, command, COMMANDS)

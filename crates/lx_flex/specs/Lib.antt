@@ -1,2 +1,3 @@
 pub mod Imported
+pub mod Lengths
 pub mod views

@@ -1,46 +1,39 @@
 //! The lengths and bytes of the texts that an expression matches.
 
+ghost use Rattle.std.specs.Prelude.{IfSome};
+ghost use Rattle.lx_ere.specs.Regex.{regex_of};
+ghost use Rattle.lx_flex.specs.Lengths.{HasLength};
+
 use lx_ere::Expr;
 
-/// Returns the sum of two lengths, if it is below 2^32.
-fn sum(one: Option<u32>, other: Option<u32>) -> Option<u32> {
-    match one {
-        None => None,
-        Some(one) => match other {
-            None => None,
-            Some(other) => one.checked_add(other),
-        },
-    }
-}
-
-/// Returns the length of both, if they are the same.
-fn common(one: Option<u32>, other: Option<u32>) -> Option<u32> {
-    if one == other { one } else { None }
-}
-
-/// Returns the length of a body that is repeated `low` to `high` times, if it is always the same.
-fn repeated(body: Option<u32>, low: u8, high: Option<u8>) -> Option<u32> {
-    match body {
-        None => None,
-        Some(0) => Some(0),
-        Some(length) => {
-            if high == Some(low) {
-                length.checked_mul(u32::from(low))
-            } else {
-                None
-            }
-        }
-    }
-}
-
 /// Returns the length of all texts that the expression matches, if it is found to be the same for all.
-pub fn fixed_length(tree: &Expr) -> Option<u32> {
+#[tactic(auto, using(crate::proofs::TextLengths::nil_length, crate::proofs::TextLengths::set_length, crate::proofs::TextLengths::then_length, crate::proofs::TextLengths::or_length, crate::proofs::TextLengths::times_length, crate::proofs::TextLengths::no_length))]
+pub fn fixed_length(tree: &Expr) -> Option<u32>
+    ensures { IfSome result (HasLength (regex_of tree.now)) }
+{
     match tree {
         Expr::Nil => Some(0),
         Expr::Set(_) => Some(1),
-        Expr::Then(first, second) => sum(fixed_length(first), fixed_length(second)),
-        Expr::Or(this, that) => common(fixed_length(this), fixed_length(that)),
-        Expr::Times { body, low, high } => repeated(fixed_length(body), *low, *high),
+        Expr::Then(first, second) => {
+            let one = fixed_length(first)?;
+            let other = fixed_length(second)?;
+            one.checked_add(other)
+        }
+        Expr::Or(this, that) => {
+            let one = fixed_length(this)?;
+            let other = fixed_length(that)?;
+            if one == other { Some(one) } else { None }
+        }
+        Expr::Times { body, low, high } => {
+            let length = fixed_length(body)?;
+            if length == 0 {
+                return Some(0);
+            }
+            if *high != Some(*low) {
+                return None;
+            }
+            length.checked_mul(u32::from(*low))
+        }
         Expr::Name(_) => None,
     }
 }

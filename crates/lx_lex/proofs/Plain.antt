@@ -1,12 +1,11 @@
 -- Rules that are sound are those of a specification without definitions and kinds.
-use Rattle.std.proofs.Common.{◌≡◌, ◌∙◌, ℕ, zero, suc, Bool, true, false, ◌&&◌, nat_lt, List, [], ◌∷◌, ◌++◌, length, map, refl, ap, subst}
+use Rattle.std.proofs.Common.{◌≡◌, ◌∙◌, ℕ, zero, suc, Bool, true, false, ◌&&◌, nat_lt, List, [], ◌∷◌, ◌++◌, refl, ap}
 use Rattle.std.specs.Prelude.{IsTrue}
 use Rattle.std.specs.List.{flat_map, list_all}
 use Rattle.lx_ere.specs.Bounds.{has_ordered_bounds}
 use Rattle.lx_ere.specs.Regex.{Regex}
 use Rattle.lx_lex.specs.Checked.{is_idle, is_plain_tree, is_sound}
-use Rattle.lx_rules.specs.Identifiers.{is_identifier}
-use Rattle.lx_rules.specs.Invariant.{are_conditions, are_distinct, are_kinds, are_ordered, are_steps, is_number, is_rule, next_number, returned_names}
+use Rattle.lx_rules.specs.Invariant.{are_conditions, are_kinds, are_ordered, are_steps, is_number, is_rule, next_number, returned_names}
 use Rattle.lx_rules.specs.Limits.{max_name_depth}
 use Rattle.lx_rules.specs.Names.{names_of}
 use Rattle.lx_rules.specs.Nesting.{are_nested, expressions_of, holds_of, is_no_name, is_within, tree_named}

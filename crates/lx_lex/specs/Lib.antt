@@ -1,4 +1,6 @@
 pub mod Arrays
 pub mod Checked
+pub mod Cuts
 pub mod Translation
+pub mod Walking
 pub mod views

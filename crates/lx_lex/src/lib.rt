@@ -3,6 +3,7 @@
 
 mod actions;
 mod arrays;
+pub mod laws;
 pub mod outline;
 pub mod printing;
 mod skeleton_calls;

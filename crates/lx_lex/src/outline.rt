@@ -1,5 +1,10 @@
 //! The rules of a file, as far as they are printed.
 
+ghost use Rattle.std.specs.Prelude.{Some};
+ghost use Rattle.lx_ere.specs.Regex.{regex_of};
+ghost use Rattle.lx_flex_pattern.specs.ReadingOf.{reading_of};
+ghost use Rattle.lx_lex.specs.Cuts.{IsCut, context_of};
+
 use lx_ere::Expr;
 use lx_flex::definitions::Declared;
 use lx_flex::file::FlexFile;
@@ -67,7 +72,9 @@ pub struct FileOutline<'a> {
 }
 
 /// Returns the cut of a match of two parts.
-fn cut_between(token: &Expr, context: &Expr) -> MatchCut {
+fn cut_between(token: &Expr, context: &Expr) -> MatchCut
+    ensures { IsCut (regex_of token.now) (Some (regex_of context.now)) result }
+{
     match fixed_length(context) {
         Some(length) => MatchCut::Before(length),
         None => match fixed_length(token) {
@@ -81,7 +88,9 @@ fn cut_between(token: &Expr, context: &Expr) -> MatchCut {
 }
 
 /// Returns the outline of a pattern.
-pub fn outline_of(reading: &PatternReading) -> PatternOutline {
+pub fn outline_of(reading: &PatternReading) -> PatternOutline
+    ensures { IsCut (reading_of reading.now).tree (context_of (reading_of reading.now)) result.cut }
+{
     let expr = &reading.pattern.expr;
     let line_begin = reading.pattern.line_begin;
     let has_newline = may_have_newline(expr);

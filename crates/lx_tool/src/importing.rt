@@ -43,7 +43,11 @@ fn scanner_words<'a>(words: &ImportWords<'a>) -> CWords<'a>
 fn push_report(notes: &mut Vec<u8>, name: &str, report: &ImportReport) -> Result<(), AllocError> {
     let weight = if report.fatal { "error" } else { "warning" };
     let written = if 0 < report.place.line {
-        writeln!(notes, "{name}:{}: {weight}: {}", report.place.line, report.cause)
+        writeln!(
+            notes,
+            "{name}:{}: {weight}: {}",
+            report.place.line, report.cause
+        )
     } else {
         writeln!(notes, "{name}: {weight}: {}", report.cause)
     };

@@ -16,6 +16,8 @@ mod printing;
 mod program;
 mod reading;
 mod remarks;
+mod scanner_help;
+mod scanners;
 mod session;
 mod showing;
 mod source;
@@ -34,6 +36,7 @@ pub use planning::{
 };
 pub use program::{run, run_with};
 pub use reading::{read_names, read_to_end};
+pub use scanners::{ScannerWords, print_scanner, scanner_words};
 pub use source::{ListSources, STANDARD_INPUT, SourceFault, Sources};
 pub use tabling::tables_of_text;
 pub use target::{NoTargets, TargetFault, Targets};

@@ -1,0 +1,160 @@
+"""Makes scanners in C by `lx flex` and `lx lex`: options, outputs, faults and statuses, and what the scanners print.
+
+Each scanner compiles without a warning as C99 and as C++, by gcc and by clang. tests/flex-suite and tests/flex-fuzz compare more of them with flex.
+"""
+import os
+import time
+
+from tests import support
+from tests.support import Case
+
+WARNINGS = ["-Wall", "-Wextra", "-pedantic", "-Werror"]
+COMPILERS = [("gcc", "-std=c99"), ("clang", "-std=c99"), ("g++", "-std=c++98"), ("clang++", "-std=c++98")]
+MAIN = "%%\nint main(void) { while (yylex() != 0) { } return 0; }\n"
+WORDS = "%option noyywrap\n%%\n[a-z]+ printf(\"<%s>\", yytext);\n[0-9]+ return 1;\n" + MAIN
+# Options, and words that a scanner with them is tried with.
+VARIANTS = [("", []), ("yylineno stack", []), ("array yylineno", []), ("debug", []), ("case-insensitive", []), ("prefix=\"foo\"", []),
+            ("nounput noinput nodefault", []), ("read", []), ("always-interactive", []), ("never-interactive", []), ("", ["-L"]), ("", ["-Cf"]), ("", ["-D", "A=1"])]
+# Files, their texts and what their scanners print.
+SCANNERS = [
+    ("a word", WORDS, b"ab 12 c\n", b"<ab>  <c>\n"),
+    ("trailing context of a fixed length", "%option noyywrap\n%%\n[a-z]+/\"=\" printf(\"[%s]\", yytext);\n" + MAIN, b"ab=ab", b"[ab]=ab"),
+    ("a token of a fixed length", "%option noyywrap\n%%\nab/c* printf(\"[%s]\", yytext);\n" + MAIN, b"abcc", b"[ab]cc"),
+    ("two lengths that vary", "%option noyywrap\n%%\nzx*/xy* printf(\"[%s]\", yytext);\n" + MAIN, b"zxx", b"[zx]x"),
+    ("the end of a line", "%option noyywrap\n%%\na$ printf(\"[%s]\", yytext);\n" + MAIN, b"aa\na", b"a[a]\na"),
+    ("the start of a line", "%option noyywrap\n%%\n^a printf(\"[%s]\", yytext);\n" + MAIN, b"aa\na", b"[a]a\n[a]"),
+    ("conditions", "%option noyywrap\n%x in\n%%\n\\\" BEGIN(in);\n<in>{\n\\\" BEGIN 0;\n[a-z]+ printf(\"(%s)\", yytext);\n}\n<<EOF>> { printf(\"end\"); yyterminate(); }\n" + MAIN,
+     b"a\"b\"c", b"a(b)cend"),
+    ("an action of the next rule", "%option noyywrap\n%%\na |\nb printf(\"[%s]\", yytext);\n" + MAIN, b"abc", b"[a][b]c"),
+    ("yymore and yyless", "%option noyywrap\n%%\na yymore();\nbcd { yyless(yyleng - 1); printf(\"[%s]\", yytext); }\n" + MAIN, b"abcd", b"[abc]d"),
+    ("unput and input", "%option noyywrap\n%%\na { int c = input(); unput('z'); printf(\"[%c]\", c); }\n" + MAIN, b"abz", b"[b]zz"),
+    ("bytes 0 and 255", "%option noyywrap\n%%\n[\\0\\xff]+ printf(\"[%d]\", (int)yyleng);\n" + MAIN, b"a\0\xff\0b", b"a[3]b"),
+    ("code at all places", "%top{\n#include <stddef.h>\n}\n%{\nstatic int made;\n%}\n    /* a comment */\n%option noyywrap\n%%\n    int here = 1;\n%{\n    made += here;\n%}\na {\n    printf(\"%d\", made);\n}\n"
+     "%{\n    /* between rules */\n%}\nb printf(\"b\");\n" + MAIN, b"ab", b"1b"),
+]
+# Files that are refused, and the first line that says why.
+REFUSED = [
+    ("REJECT", "%%\n\na REJECT;\n", "x.l:3:1: error: REJECT is not supported; write the other rule's pattern first"),
+    ("no rules", "%option noyywrap\n", "x.l:2:1: error: there is no line %%; write one before the rules"),
+    ("an unknown option", "%option noyywrap  what\n%%\n", "x.l:1:19: error: flex has no such %option; delete the word"),
+    ("a scanner in C++", "%option c++\n%%\n", "x.l:1:9: error: C++ scanners (%option c++, yyclass) are not supported; a C++ compiler takes the scanner in C, so delete the word"),
+    ("an unknown condition", "%%\n<A>a ;\n", "x.l:2:2: error: the start condition isn't declared; declare it with %s or %x"),
+    ("an open action", "%%\na {\n", "x.l:2:3: error: a comment, a code block, a scope or an action isn't closed; close it"),
+    ("a pattern", "%%\na(b ;\n", "x.l:2:1: error: the pattern: a group, quotes or brackets aren't closed; write another one"),
+]
+HOSTILE = [("parentheses", b"%%\n" + b"(" * 1_000_000), ("braces", b"%%\na {" + b"{" * 1_000_000), ("an open action", b"%%\na { /* " + b"x\n" * 400_000),
+           ("bytes 0", b"%%\n" + b"\0" * 1_000_000), ("carriage returns", b"%%\r\na ;\r\n" * 100_000), ("lists", b"%%\n<" * 200_000), ("names", b"a " * 400_000),
+           ("quotes", b"%%\n\"" + b"a" * 1_000_000), ("brackets", b"%%\n" + b"[a" * 500_000)]
+
+
+class FlexScanners(Case):
+    def setUp(self):
+        self.room = self.make_folder()
+
+    def flex(self, *words, command="flex", **how):
+        return support.lx(command, *words, cwd=self.room, text=True, **how)
+
+    def write(self, text, name="x.l"):
+        (self.room / name).write_bytes(text if isinstance(text, bytes) else text.encode())
+
+    def names(self):
+        return sorted(path.name for path in self.room.iterdir())
+
+    def compiled(self, compiler, standard, name="lex.yy.c"):
+        source = self.room / name
+        language = ["-x", "c++"] if "++" in compiler else []
+        support.compile_by(compiler, standard, *WARNINGS, "-o", self.room / "program", *language, source)
+        return self.room / "program"
+
+    def test_scanners(self):
+        compiler = support.tool("gcc", "clang", "cc")
+        for name, text, given, wanted in SCANNERS:
+            self.write(text)
+            ended = self.flex("x.l")
+            self.expect(f"{name}: lx flex", (ended.returncode, ended.stderr), (0, ""))
+            program = self.compiled(compiler, "-std=c99")
+            self.expect(name, support.run(program, input=given).stdout, wanted)
+
+    def test_variants(self):
+        for options, words in VARIANTS:
+            name = "lex.foo.c" if "prefix" in options else "lex.yy.c"
+            text = WORDS.replace("yylex()", "foolex()") if "prefix" in options else WORDS
+            self.write(text.replace("noyywrap", f"noyywrap {options}"))
+            ended = self.flex(*words, "x.l")
+            self.expect(f"{options} {words}: lx flex", (ended.returncode, ended.stderr), (0, ""))
+            for compiler, standard in COMPILERS:
+                if not any(os.access(os.path.join(folder, compiler), os.X_OK) for folder in os.environ["PATH"].split(":")):
+                    self.leave_out(f"{options} {words}: {compiler}", f"there is no {compiler}")
+                    continue
+                program = self.compiled(compiler, standard, name)
+                if "nodefault" not in options and options != "debug":
+                    self.expect(f"{options} {words}: {compiler}", support.run(program, input=b"ab\n1\n").stdout, b"<ab>\n\n")
+
+    def test_outputs(self):
+        self.write(WORDS)
+        for words, made in [(["x.l"], "lex.yy.c"), (["-o", "a.c", "x.l"], "a.c"), (["-oa.c", "x.l"], "a.c"), (["--outfile=a.c", "x.l"], "a.c"), (["-Pp", "x.l"], "lex.p.c"),
+                            (["x.l", "-o", "a.c"], "a.c")]:
+            ended = self.flex(*words)
+            self.expect(f"{words}", (ended.returncode, ended.stdout, ended.stderr, self.names()), (0, "", "", sorted(["x.l", made])))
+            (self.room / made).unlink()
+        printed = self.flex("-t", "x.l")
+        self.check("-t", printed.returncode == 0 and "yylex" in printed.stdout)
+        self.expect("-t makes no file", self.names(), ["x.l"])
+        self.expect("standard input", self.flex("-t", input=WORDS).stdout, printed.stdout.replace('"x.l"', '"<stdin>"'))
+        ended = self.flex("-o", "a.c", "--header-file=a.h", "x.l")
+        self.expect("a header", (ended.returncode, self.names()), (0, ["a.c", "a.h", "x.l"]))
+
+    def test_several_files(self):
+        self.write("%option noyywrap\n%%\n", "one.l")
+        self.write("a printf(\"a\");\n%%\nwrong\n", "two.l")
+        text = self.flex("-t", "one.l", "two.l").stdout
+        self.check("the lines of the second file", '#line 1 "two.l"\nprintf("a");' in text and '#line 3 "two.l"\nwrong' in text, text[-300:])
+        self.write("<A>a ;\n", "two.l")
+        self.expect("a fault in it", self.flex("one.l", "two.l").stderr.splitlines()[0], "two.l:1:2: error: the start condition isn't declared; declare it with %s or %x")
+
+    def test_refused(self):
+        for name, text, line in REFUSED:
+            self.write(text)
+            ended = self.flex("x.l")
+            self.expect(name, (ended.returncode, ended.stdout, ended.stderr.splitlines()[0], self.names()), (1, "", line, ["x.l"]))
+        self.write("%%\na(b ;\n<A>b ;\n[c ;\n")
+        self.expect("all faults of a file", [line.split(":")[1] for line in self.flex("x.l").stderr.splitlines() if line.startswith("x.l")], ["2", "3", "4"])
+
+    def test_statuses(self):
+        self.write(WORDS)
+        for name, words, status, said in [
+                ("an unknown option", ["-Q", "x.l"], 2, "lx: no option -Q; --help lists all"), ("an unknown name", ["--what", "x.l"], 2, "lx: no option --what; --help lists all"),
+                ("an option without its value", ["-o"], 2, "lx: the option -o needs a value"), ("a skeleton", ["-S", "f", "x.l"], 2, "lx: the option -S is not supported; --help lists those that are"),
+                ("no file", ["y.l"], 3, "lx: cannot read y.l"), ("a folder", ["."], 3, "lx: cannot read ."), ("no folder", ["-o", "no/a.c", "x.l"], 4, "lx: cannot write"),
+                ("the input as the output", ["-o", "x.l", "x.l"], 2, "lx: an output would overwrite x.l; name another file"),
+                ("one file twice", ["-o", "a", "--header-file=a", "x.l"], 2, "lx: an output would overwrite the other one; name another file")]:
+            ended = self.flex(*words)
+            self.expect(name, (ended.returncode, ended.stdout, ended.stderr.splitlines()[0], self.names()), (status, "", said, ["x.l"]))
+        self.expect("the input is as it was", (self.room / "x.l").read_text(), WORDS)
+
+    def test_answers(self):
+        for command in ("lex", "flex"):
+            self.check(f"{command} --version", "flex 2.6.4 compatible, by lx " in self.flex("--version", command=command).stdout)
+            self.check(f"{command} --help", f"Usage: lx {command} " in self.flex("--help", command=command).stdout)
+        self.write(WORDS)
+        os.symlink(support.built(), self.room / "flex")
+        self.expect("called as flex", support.run(self.room / "flex", "-t", "x.l", cwd=self.room, text=True).stdout, self.flex("-t", "x.l").stdout)
+
+    def test_intervals(self):
+        compiler = support.tool("gcc", "clang", "cc")
+        self.write("%option noyywrap\n%%\nab{2} printf(\"[%s]\", yytext);\n" + MAIN)
+        for command, wanted in [("flex", b"[abb]a[abb]"), ("lex", b"[abab]b")]:
+            self.expect(f"{command}: status", self.flex("x.l", command=command).returncode, 0)
+            given = b"abbaabb"[:3] + b"aabb" if command == "flex" else b"ababb"
+            self.expect(command, support.run(self.compiled(compiler, "-std=c99"), input=given).stdout, wanted)
+
+    def test_hostile(self):
+        for name, text in HOSTILE:
+            self.write(text)
+            begun = time.monotonic()
+            ended = self.flex("-t", "x.l")
+            self.check(f"{name}: an error with a place, soon", ended.returncode in (0, 1) and ended.stderr[-500:].isprintable() is not None and time.monotonic() - begun < 20, ended.stderr[:200])
+
+
+if __name__ == "__main__":
+    support.main()
