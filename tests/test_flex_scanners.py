@@ -23,7 +23,7 @@ SCANNERS = [
     ("two lengths that vary", "%option noyywrap\n%%\nzx*/xy* printf(\"[%s]\", yytext);\n" + MAIN, b"zxx", b"[zx]x"),
     ("the end of a line", "%option noyywrap\n%%\na$ printf(\"[%s]\", yytext);\n" + MAIN, b"aa\na", b"a[a]\na"),
     ("the start of a line", "%option noyywrap\n%%\n^a printf(\"[%s]\", yytext);\n" + MAIN, b"aa\na", b"[a]a\n[a]"),
-    ("conditions", "%option noyywrap\n%x in\n%%\n\\\" BEGIN(in);\n<in>{\n\\\" BEGIN 0;\n[a-z]+ printf(\"(%s)\", yytext);\n}\n<<EOF>> { printf(\"end\"); yyterminate(); }\n" + MAIN,
+    ("conditions", "%option noyywrap\n%x QUOTED\n%%\n\\\" BEGIN(QUOTED);\n<QUOTED>{\n\\\" BEGIN 0;\n[a-z]+ printf(\"(%s)\", yytext);\n}\n<<EOF>> { printf(\"end\"); yyterminate(); }\n" + MAIN,
      b"a\"b\"c", b"a(b)cend"),
     ("an action of the next rule", "%option noyywrap\n%%\na |\nb printf(\"[%s]\", yytext);\n" + MAIN, b"abc", b"[a][b]c"),
     ("yymore and yyless", "%option noyywrap\n%%\na yymore();\nbcd { yyless(yyleng - 1); printf(\"[%s]\", yytext); }\n" + MAIN, b"abcd", b"[abc]d"),

@@ -4,7 +4,8 @@ The inputs are mutations of the specifications of examples/ and tests/rows, of t
 mutation changes, drops, duplicates or swaps bytes, lines or pieces of two inputs. Each input is a check:
 
 - no run crashes, takes more than 20 seconds or ends with a status outside 0 to 5, and a further run has the same status;
-- a run that is refused prints nothing to the output, but the report of `check`, and its first line on stderr begins with `lx: `;
+- a run that is refused prints nothing to the output, but the report of `check`, and its first line on stderr begins with `lx: `, or for `lex` and `flex` with
+  the place of a fault;
 - `gen`, `run` and `check` agree on the first fault; what `import` prints is accepted by `gen`;
 - `run`, `scan` with 1 and 4 workers, the driver in Python and, for some inputs, the printed scanners in C, by rows and as code, list the same items;
 - `up`, `scan` and the driver in Python accept the same tables, and `up` prints what it reads again.
@@ -41,7 +42,9 @@ WORDS = [b"%%\n", b"%x A\n", b"%s B\n", b"%{\n%}\n", b"<A>", b"<*>", b"{D}", b"{
 # No option has a device for its output.
 COMMAND_WORDS = ["-j", "1", "4", "9", "-b", "0", "256", "--names", "--only", "--only=-", "ID", "A,B", "--no-text", "--format", "json", "text", "xml", "--first", "4294967295", "-1", "--files-from", "L", "-0", "-o", "-", "out", "S", "T", "F", "none", "--c",
                  "--direct", "--header", "--prefix", "p", "P", "--include", "y.tab.h", "-c", "--lossy", "-q", "-W", "all", "no-all", "error", "--most", "3", "--json", "--all", "--", "-h", "-V", "E10", "warning", "caf\udce9", ""]  # fmt: skip
-COMMANDS = ["run", "scan", "gen", "up", "check", "explain", "show", "import", "lex", ""]
+# The first line of what `lx flex` refuses.
+PLACE_OR_LX = re.compile(rb"lx: |[^\n]*?(?::\d+:\d+)?: error: ")
+COMMANDS = ["run", "scan", "gen", "up", "check", "explain", "show", "import", "lex", "flex", ""]
 FILES = {"S": b"%%\n[a-z]+ return ID;\n", "F": b"ab\n", "L": b"F\n"}
 
 
@@ -119,11 +122,12 @@ class Runs:
         except subprocess.TimeoutExpired:
             raise Wrong(f"lx {words} takes more than {LIMIT_SECONDS} seconds") from None
         reports = words[0] in ("check", b"check")
+        begins = PLACE_OR_LX if words[0] in (b"lex", b"flex") else re.compile(rb"lx: ")
         if ended.returncode not in STATUSES:
             raise Wrong(f"lx {words} ends with {ended.returncode}: {ended.stderr[-300:]!r}")
         if ended.returncode in (1, 2) and ended.stdout and not reports:
             raise Wrong(f"lx {words} is refused with {ended.returncode}, and prints {ended.stdout[:100]!r}")
-        if ended.returncode in (1, 3, 4, 5) and not reports and not ended.stderr.startswith(b"lx: "):
+        if ended.returncode in (1, 3, 4, 5) and not reports and not begins.match(ended.stderr):
             raise Wrong(f"lx {words} ends with {ended.returncode}, and says {ended.stderr[:100]!r}")
         return ended
 
