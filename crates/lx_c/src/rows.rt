@@ -8,7 +8,9 @@ ghost use Rattle.std.specs.List.{list_any};
 ghost use Rattle.std.specs.Prelude.{OnOk, length, ◌++◌, ◌<◌, ◌≡◌};
 
 use crate::options::Options;
-use crate::pushing::{PushResult, push, push_either, push_filled, push_number_then, push_numbered, push_type};
+use crate::pushing::{
+    PushResult, push, push_either, push_filled, push_number_then, push_numbered, push_type,
+};
 use crate::templates::{CLASSES, LINE_BEGIN, NO_LINE_BEGIN, ROWS, STARTS, WIDTH};
 use crate::{greatest_word, rule_word, start_word, target_word};
 use lx_tables::Tables;
