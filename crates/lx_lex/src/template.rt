@@ -262,16 +262,3 @@ pub(crate) fn push_template(
     }
     Ok(())
 }
-
-#[test]
-fn options_choose_lines_and_marks(rt: HostRuntime) {
-    let alloc = rt.alloc();
-    let mut environment = Environment::new(alloc, b"yy");
-    environment.add(b"debug", true).expect(&rt, "memory");
-    let mut output = Output::after(alloc, 0);
-    let template: &[u8] =
-        b"a @x@g\n%if debug\nb\n%if stack\nc\n%else\nd@@\n%end\n%else\ne\n%end\n%if !debug\nf\n%end\ng(@p)\n";
-    push_template(alloc, &mut output, &environment, template).expect(&rt, "memory");
-    assert!(rt; output.text.as_slice() == b"a yy\nb\nd@\ng(void)\n".as_slice());
-    assert!(rt; output.line() == 5);
-}

@@ -1,10 +1,12 @@
 -- The scanner in C that `lex` and `flex` print.
-use Rattle.std.specs.Prelude.{◌≡◌, ◌⊎◌, ℕ, List, Option}
+use Rattle.std.specs.Prelude.{◌≡◌, ◌⊎◌, ◌++◌, ℕ, Bool, if◌then◌else◌, List, Option, codes}
 use Rattle.std.specs.Io.KnownBytes.{Appends, Keeps}
+use Rattle.lx_cli.specs.declared.version.TheConstants.{VERSION}
 use Rattle.lx_lex.specs.Arrays.{HasArrays}
 use Rattle.lx_lex.specs.Translation.{FileRule, IsScannerSpec}
 use Rattle.lx_rules.specs.Plain.{PlainSpec, StartCondition}
 use Rattle.lx_tables.specs.Model.{AreTablesOf, Table}
+use Rattle.lx_tool.specs.declared.scanner_help.TheConstants.{FLEX_HELP, LEX_HELP}
 use Rattle.lx_tool.specs.Printing.{IsPlaced, IsWritten}
 
 -- The rules of the specification are rules that were read, one for one.
@@ -33,17 +35,26 @@ pub record IsScannerPrinted {T : Type 0} (places : T → List ℕ → List ℕ �
   pub header_text : List ℕ
   pub header_placed : IsPlaced places header header_text between after
 
+-- the line that names the version
+abbrev pub version_line : List ℕ
+version_line = codes "flex 2.6.4 compatible, by lx " ++ VERSION.now ++ codes "\n"
+
+-- the help of the command, or its version
+abbrev pub IsAnswer : Bool → List ℕ → Type 0
+IsAnswer posix said = (said ≡ (if posix then LEX_HELP.now else FLEX_HELP.now)) ⊎ (said ≡ version_line)
+
 -- The help or the version was written, and no file was made.
-pub record IsAnswered {T : Type 0} (before after : T) (old new : Option (List ℕ)) : Type 0 where
+pub record IsAnswered {T : Type 0} (posix : Bool) (before after : T) (old new : Option (List ℕ)) : Type 0 where
   pub said : List ℕ
+  pub answer : IsAnswer posix said
   pub wrote : Appends old new said
   pub unchanged : after ≡ before
 
-abbrev pub IsOutcome : {T : Type 0} → (T → List ℕ → List ℕ → T → Type 0) → T → T → Option (List ℕ) → Option (List ℕ) → Type 0
-IsOutcome places before after old new = IsAnswered before after old new ⊎ IsScannerPrinted places before after old new
+abbrev pub IsOutcome : {T : Type 0} → (T → List ℕ → List ℕ → T → Type 0) → Bool → T → T → Option (List ℕ) → Option (List ℕ) → Type 0
+IsOutcome places posix before after old new = IsAnswered posix before after old new ⊎ IsScannerPrinted places before after old new
 
 -- It was done, and then the output was flushed.
-pub record IsDone {T : Type 0} (places : T → List ℕ → List ℕ → T → Type 0) (before after : T) (old new : Option (List ℕ)) : Type 0 where
+pub record IsDone {T : Type 0} (places : T → List ℕ → List ℕ → T → Type 0) (posix : Bool) (before after : T) (old new : Option (List ℕ)) : Type 0 where
   pub sent : Option (List ℕ)
-  pub outcome : IsOutcome places before after old sent
+  pub outcome : IsOutcome places posix before after old sent
   pub flushed : Keeps sent new

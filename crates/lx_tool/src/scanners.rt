@@ -5,7 +5,7 @@ ghost use Rattle.lx_rules.specs.views.Specs.{spec_view};
 ghost use Rattle.lx_tables.specs.Model.{AreTablesOf};
 ghost use Rattle.std.specs.Io.KnownBytes.{Appends};
 ghost use Rattle.lx_tool.specs.Printing.{IsPlaced, IsWritten};
-ghost use Rattle.lx_tool.specs.Scanners.{HasFileRules, IsAnswered, IsDone, IsOutcome, IsScanner, IsScannerPrinted};
+ghost use Rattle.lx_tool.specs.Scanners.{HasFileRules, IsAnswer, IsAnswered, IsDone, IsOutcome, IsScanner, IsScannerPrinted};
 
 use crate::names::name_bytes;
 use crate::output::Output;
@@ -476,7 +476,9 @@ fn place_named<'a, T: Targets>(
 }
 
 // Returns the answer to `--help` or `--version`.
-fn answer_of(alloc: Global, answer: FlexAnswer, posix: bool) -> Result<Vec<u8>, AllocError> {
+fn answer_of(alloc: Global, answer: FlexAnswer, posix: bool) -> Result<Vec<u8>, AllocError>
+    ensures { IfOk result (λ text. IsAnswer posix text.items) }
+{
     match answer {
         FlexAnswer::Help => Vec::from_slice(alloc, if posix { LEX_HELP } else { FLEX_HELP }),
         FlexAnswer::Version => {
@@ -613,7 +615,7 @@ fn make_scanner<'a, S: Sources, T: Targets, O: Write>(
     notes: &mut Vec<u8>,
     out: &mut O,
 ) -> Result<(), ScannerFault<'a>>
-    ensures { OnOk result (IsOutcome T.places targets.old targets.new (O.contents out.old)
+    ensures { OnOk result (IsOutcome T.places words.entry.posix targets.old targets.new (O.contents out.old)
         (O.contents out.new)) }
 {
     let FlexCommand {
@@ -687,7 +689,7 @@ pub fn print_scanner<S: Sources, T: Targets, O: Write + Output, E: Write>(
     err: &mut E,
 ) -> u8
     ensures known { result ≤ 5 }
-    ensures done { result ≡ 0 → IsDone T.places targets.old targets.new (O.contents out.old)
+    ensures done { result ≡ 0 → IsDone T.places words.entry.posix targets.old targets.new (O.contents out.old)
         (O.contents out.new) }
 {
     let mut notes = Vec::new(alloc);
