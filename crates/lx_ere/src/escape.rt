@@ -6,7 +6,7 @@ ghost use Rattle.lx_ere.specs.Escapes.{digit_of, is_digit, letter_byte};
 ghost use Rattle.lx_ere.specs.Lexing.{run_len, byte_of, number_at, hexadecimal_at, escape_at};
 
 /// Returns the value of a digit, in a base of at most 16.
-fn digit_of(c: u8) -> u8
+pub fn digit_of(c: u8) -> u8
     ensures { result ≡ digit_of c }
 {
     if c <= b'9' {

@@ -1,12 +1,13 @@
 //! Expressions and patterns (POSIX.1-2017, XBD 9.4; XCU `lex`, "Regular Expressions in lex").
 
-ghost use Rattle.std.specs.Prelude.{◌≡◌, ◌↔◌, IsTrue};
+ghost use Rattle.std.specs.Prelude.{◌≡◌, ◌↔◌, IfOk, IsTrue};
 ghost use Rattle.std.specs.Cmp.{on_equiv, partial_equiv_from_equiv};
 ghost use Rattle.lx_ere.specs.Regex.{regex_of, reading_of};
 ghost use Rattle.lx_ere.specs.Equality.{same_trees, same_readings};
 ghost use Rattle.lx_ere.specs.EqualityLaws.{trees_equivalence, readings_equivalence};
 
 use crate::set::ByteSet;
+use std::alloc::AllocError;
 
 /// An extended regular expression over bytes.
 #[derive(Debug, Drop)]
@@ -43,7 +44,44 @@ pub struct Pattern {
     pub expr: Expr,
 }
 
-/// Returns true if the two trees have the same form and equal parts.
+impl Clone for Expr {
+    ghost is_clone = { λ e copy. regex_of copy ≡ regex_of e };
+
+    fn clone(&self) -> Result<Expr, AllocError> {
+        copy_of(self)
+    }
+}
+
+// Returns an expression of the same form with equal parts.
+fn copy_of(tree: &Expr) -> Result<Expr, AllocError>
+    ensures { IfOk result (λ copy. regex_of copy ≡ regex_of tree.now) }
+{
+    match tree {
+        Expr::Nil => Ok(Expr::Nil),
+        Expr::Set(set) => Ok(Expr::Set(set.clone()?)),
+        Expr::Then(first, second) => {
+            let first = Box::new(*Box::allocator(first), copy_of(first)?)?;
+            let second = Box::new(*Box::allocator(second), copy_of(second)?)?;
+            Ok(Expr::Then(first, second))
+        }
+        Expr::Or(this, that) => {
+            let this = Box::new(*Box::allocator(this), copy_of(this)?)?;
+            let that = Box::new(*Box::allocator(that), copy_of(that)?)?;
+            Ok(Expr::Or(this, that))
+        }
+        Expr::Times { body, low, high } => {
+            let body = Box::new(*Box::allocator(body), copy_of(body)?)?;
+            Ok(Expr::Times {
+                body,
+                low: *low,
+                high: *high,
+            })
+        }
+        Expr::Name(name) => Ok(Expr::Name(name.clone()?)),
+    }
+}
+
+// Returns true if the two trees have the same form and equal parts.
 fn same_tree(left: &Expr, right: &Expr) -> bool
     ensures { result ≡ same_trees (regex_of left.now) (regex_of right.now) }
 {

@@ -1,11 +1,11 @@
 //! The open groups while a pattern is read from left to right. They are on the heap, so that nesting takes no stack.
 
-ghost use Rattle.std.specs.Prelude.{◌≡◌, IfOk, Some, None, [], List, ℕ};
+ghost use Rattle.std.specs.Prelude.{◌≡◌, IfOk, IfSome, Some, None, [], List, ℕ};
 ghost use Rattle.std.specs.Option.{option_map};
 ghost use Rattle.lx_ere.specs.Bytes.{byte_set};
 ghost use Rattle.lx_ere.specs.Regex.{regex_of, one_of};
 ghost use Rattle.lx_ere.specs.Grammar.{open_group, close_group, bar, interval, quoted, joined};
-ghost use Rattle.lx_ere.specs.Stacks.{empty_frame, stack, whole, total, push, again, step, finish};
+ghost use Rattle.lx_ere.specs.Stacks.{empty_frame, frame, stack, whole, total, push, again, step, finish};
 ghost use Rattle.lx_ere.specs.Groups.{frame_of, groups_of};
 ghost use Rattle.lx_ere.specs.Lexemes.{lexeme_of};
 
@@ -133,6 +133,98 @@ fn join_bytes(alloc: Global, first: u8, more: &[u8]) -> Result<Expr, AllocError>
         string = Expr::Then(left, right);
     }
     Ok(string)
+}
+
+/// Takes the last unit out of the innermost group. Returns `None` if there is none.
+pub fn take_unit(groups: Groups) -> Option<(Groups, Expr)>
+    ensures some { IfSome result (λ f. groups_of f.0
+        ≡ stack (frame (groups_of groups).top.before (groups_of groups).top.branch None)
+        (groups_of groups).below) }
+    ensures unit { option_map (λ f. regex_of f.1) result ≡ (groups_of groups).top.unit }
+{
+    let Groups { top, below } = groups;
+    let Frame {
+        before,
+        branch,
+        unit,
+    } = top;
+    let unit = unit?;
+    let top = Frame {
+        before,
+        branch,
+        unit: None,
+    };
+    Some((Groups { top, below }, unit))
+}
+
+/// Takes the branch with its last unit out of the innermost group. Returns `None` if the branch is empty.
+pub fn take_branch(alloc: Global, groups: Groups) -> Result<Option<(Groups, Expr)>, AllocError>
+    ensures some { IfOk result (λ o. IfSome o (λ f. groups_of f.0
+        ≡ stack (frame (groups_of groups).top.before None None) (groups_of groups).below)) }
+    ensures branch { IfOk result (λ o. option_map (λ f. regex_of f.1) o
+        ≡ whole (groups_of groups).top.branch (groups_of groups).top.unit) }
+{
+    let Groups { top, below } = groups;
+    let Frame {
+        before,
+        branch,
+        unit,
+    } = top;
+    let Some(branch) = whole(alloc, branch, unit)? else {
+        return Ok(None);
+    };
+    let top = Frame {
+        before,
+        branch: None,
+        unit: None,
+    };
+    Ok(Some((Groups { top, below }, branch)))
+}
+
+/// Makes the expression the last unit of the innermost group, in the place of the one that `take_unit` took.
+pub fn put_unit(groups: Groups, unit: Expr) -> Groups
+    ensures { groups_of result
+        ≡ stack (frame (groups_of groups).top.before (groups_of groups).top.branch (Some (regex_of unit)))
+        (groups_of groups).below }
+{
+    let Groups { top, below } = groups;
+    let Frame {
+        before,
+        branch,
+        unit: _unit,
+    } = top;
+    let unit = Some(unit);
+    Groups {
+        top: Frame {
+            before,
+            branch,
+            unit,
+        },
+        below,
+    }
+}
+
+/// Makes the expression the branch of the innermost group, in the place of the one that `take_branch` took.
+pub fn put_branch(groups: Groups, branch: Expr) -> Groups
+    ensures { groups_of result
+        ≡ stack (frame (groups_of groups).top.before (Some (regex_of branch)) None)
+        (groups_of groups).below }
+{
+    let Groups { top, below } = groups;
+    let Frame {
+        before,
+        branch: _branch,
+        unit: _unit,
+    } = top;
+    let branch = Some(branch);
+    Groups {
+        top: Frame {
+            before,
+            branch,
+            unit: None,
+        },
+        below,
+    }
 }
 
 /// Repeats the last unit.

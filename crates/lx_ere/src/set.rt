@@ -1,8 +1,9 @@
 //! Sets of bytes.
 
-ghost use Rattle.std.specs.Prelude.{◌≡◌, ℕ, Bool, false, ◌||◌, not};
+ghost use Rattle.std.specs.Prelude.{◌≡◌, ℕ, Bool, false, ◌||◌, not, ⊤};
 ghost use Rattle.std.specs.FinSet as set;
 
+use std::alloc::AllocError;
 use std::marker::Model;
 
 /// A set of bytes, with a bit for each byte: byte `b` is bit `b % 64` of word `b / 64`.
@@ -49,6 +50,16 @@ impl Eq for ByteSet {
     ghost use Rattle.lx_ere.specs.EqualityLaws.{sets_equivalence};
 
     ghost laws = { sets_equivalence };
+}
+
+impl Clone for ByteSet {
+    ghost is_clone = { λ s copy. copy ≡ s };
+
+    ghost is_infallible = { λ _. ⊤ };
+
+    fn clone(&self) -> Result<ByteSet, AllocError> {
+        Ok(self.duplicate())
+    }
 }
 
 impl ByteSet {
@@ -115,7 +126,8 @@ impl ByteSet {
 
     // Returns the same set. Its value is known by its bytes.
     fn duplicate(&self) -> ByteSet
-        ensures { result ≡ bytes_where (λ b. set.contains self.now b) }
+        ensures same { result ≡ self.now }
+        ensures listed { result ≡ bytes_where (λ b. set.contains self.now b) }
     {
         ByteSet { words: self.words }
     }

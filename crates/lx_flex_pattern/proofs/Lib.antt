@@ -1,4 +1,8 @@
+pub mod BoundLemmas
 pub mod BracketLemmas
+pub mod KeptBounds
+pub mod KeptStacks
+pub mod KeptTexts
 pub mod Mirroring
 pub mod Patterns
 pub mod Reaching

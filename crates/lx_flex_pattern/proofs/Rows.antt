@@ -1,6 +1,5 @@
 -- A row of parts has one list of lexemes, and a text one reading.
-use Rattle.std.proofs.Common.{◌≡◌, ℕ, zero, suc, ◌+◌, List, [], ◌++◌, Option, Some, None, refl, sym, ap, subst, ◌∙◌, arith, length}
-use Rattle.std.specs.Option.{option_map}
+use Rattle.std.proofs.Common.{◌≡◌, ℕ, zero, suc, ◌+◌, List, ◌++◌, Option, Some, refl, sym, ap, subst, ◌∙◌, arith, length}
 use Rattle.lx_ere.specs.ChoiceLaws.{no_none, same_some, map_is}
 use Rattle.lx_ere.specs.Grammar.{Lexeme, IsAlternation}
 use Rattle.lx_ere.specs.Regex.{Regex}

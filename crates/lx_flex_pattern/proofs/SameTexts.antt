@@ -5,14 +5,14 @@ use Rattle.lx_ere.specs.Matching.{Splits, Repeats, RepeatsBetween, Matches}
 use Rattle.lx_flex_pattern.specs.Mirror.{Mirrors, empties, sets, thens, ors, repeats, names}
 use Rattle.lx_flex_pattern.specs.Translation.{passes, HaveSameTexts}
 
-splits_as : (L L' M M' : List ℕ → Type 0) → ((w : List ℕ) → L w → L' w) → ((w : List ℕ) → M w → M' w) → (w : List ℕ) → Splits L M w → Splits L' M' w
+pub splits_as : (L L' M M' : List ℕ → Type 0) → ((w : List ℕ) → L w → L' w) → ((w : List ℕ) → M w → M' w) → (w : List ℕ) → Splits L M w → Splits L' M' w
 splits_as L L' M M' f g w s = (s.0, s.1, f (s.0) (s.2), g (s.1) (s.3), s.4)
 
 repeats_as : (L M : List ℕ → Type 0) → ((w : List ℕ) → L w → M w) → (k : ℕ) (w : List ℕ) → Repeats L k w → Repeats M k w
 repeats_as L M f zero w h = h
 repeats_as L M f (suc k) w s = splits_as L M (Repeats L k) (Repeats M k) f (λ v. repeats_as L M f k v) w s
 
-between_as : (L M : List ℕ → Type 0) → ((w : List ℕ) → L w → M w) → (low : ℕ) (high : Option ℕ) (w : List ℕ) → RepeatsBetween L low high w → RepeatsBetween M low high w
+pub between_as : (L M : List ℕ → Type 0) → ((w : List ℕ) → L w → M w) → (low : ℕ) (high : Option ℕ) (w : List ℕ) → RepeatsBetween L low high w → RepeatsBetween M low high w
 between_as L M f low high w s = (s.0, s.1, s.2, repeats_as L M f (s.0) w (s.3))
 
 none_times : (L : List ℕ → Type 0) (k : ℕ) (w : List ℕ) → k ≤ 0 → Repeats L k w → w ≡ []

@@ -1,5 +1,5 @@
 -- Sets of bytes that are put together.
-use Rattle.std.proofs.Common.{◌≡◌, ℕ, ◌+◌, ◌<◌, Bool, true, false, ◌&&◌, ◌||◌, not, List, [], ◌∷◌, ◌++◌, length, take, map, get_or, refl, sym, ap, ◌∙◌, arith}
+use Rattle.std.proofs.Common.{◌≡◌, ℕ, ◌+◌, ◌<◌, Bool, true, false, ◌&&◌, ◌||◌, not, List, [], ◌∷◌, ◌++◌, length, take, map, get_or, refl, sym, ap, ◌∙◌}
 use Rattle.std.specs.FinSet as set
 use Rattle.std.specs.Ordering.{nat_cmp}
 use Rattle.lx_ere.specs.Bytes.{bytes_where, in_ranges, is_between}
@@ -7,7 +7,7 @@ use Rattle.lx_ere.specs.ByteLaws.{contains_where, same_where}
 use Rattle.std.proofs.lemmas.List.{map-append, take_more}
 use Rattle.lx_flex_pattern.specs.declared.brackets.BracketMember.{BracketMember}
 use Rattle.lx_flex_pattern.specs.Members.{member_of}
-use Rattle.lx_flex_pattern.specs.Sets.{is_letter, other_case, range_has, byte_set, Member, member_has, some_has, difference}
+use Rattle.lx_flex_pattern.specs.Sets.{is_letter, other_case, range_has, Member, member_has, some_has, difference}
 
 or_swap : (x y t : Bool) → (x || (y || t)) ≡ ((y || x) || t)
 or_swap true true t = refl

@@ -1,5 +1,8 @@
 pub mod Faults
+pub mod Intervals
+pub mod KeptStacks
 pub mod Lexing
+pub mod Limits
 pub mod Members
 pub mod Mirror
 pub mod Pieces

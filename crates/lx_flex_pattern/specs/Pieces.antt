@@ -1,10 +1,12 @@
 -- The meaning of the code's states, parts and definitions.
-use Rattle.std.specs.Prelude.{ℕ, List, map, reverse, Option}
+use Rattle.std.specs.Prelude.{ℕ, if◌then◌else◌, List, [], ◌∷◌, ◌++◌, map, reverse, Option}
 use Rattle.std.specs.Option.{option_map}
 use Rattle.std.specs.BTreeMap.{get_by}
 use Rattle.std.specs.Cmp.Lexicographic.{slice_cmp}
 use Rattle.std.specs.Ordering.{nat_cmp}
+use Rattle.lx_ere.specs.Grammar.{Lexeme, interval, repeat}
 use Rattle.lx_ere.specs.Lexemes.{lexeme_of}
+use Rattle.lx_flex_pattern.specs.declared.bounds.Interval.{Interval}
 use Rattle.lx_flex_pattern.specs.declared.lexing.Pending as code_pending
 use Rattle.lx_flex_pattern.specs.declared.lexing.Pending.TheVariants as waiting
 use Rattle.lx_flex_pattern.specs.declared.lexing.PatternState.{PatternState}
@@ -30,7 +32,12 @@ pending_of (waiting.With b) = with b.set
 abbrev pub state_of : PatternState → State
 state_of s = record { flags = s.flags; outer = reverse s.outer.items; pending = pending_of s.pending; fresh = s.fresh; line_begin = s.line_begin; in_context = s.in_context }
 
+-- the lexeme of an interval
+abbrev pub interval_of : Interval → Lexeme
+interval_of i = if i.repeats_branch then interval i.bounds.low i.bounds.high else repeat i.bounds.low i.bounds.high
+
 abbrev pub piece_of : code_piece.Piece → Piece
+piece_of (part.Repeats ls i s rest) = goes (map lexeme_of ls.items ++ interval_of i ∷ []) (state_of s) rest.now
 piece_of (part.Goes ls s rest) = goes (map lexeme_of ls.items) (state_of s) rest.now
 piece_of (part.Inserts ls s front rest) = inserts (map lexeme_of ls.items) (state_of s) front.items rest.now
 piece_of (part.Ends ls s rest) = ends (map lexeme_of ls.items) (state_of s) rest.now

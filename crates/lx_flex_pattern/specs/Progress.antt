@@ -12,6 +12,8 @@ use Rattle.lx_flex_pattern.specs.declared.reading.RowEnd as code_end
 use Rattle.lx_flex_pattern.specs.declared.reading.RowEnd.TheVariants as ends
 use Rattle.lx_flex_pattern.specs.declared.reading.RowPart as code_part
 use Rattle.lx_flex_pattern.specs.declared.reading.RowPart.TheVariants as part
+use Rattle.lx_flex_pattern.specs.Intervals.{IsKeptAs}
+use Rattle.lx_flex_pattern.specs.KeptStacks.{IsKeptStack}
 use Rattle.lx_flex_pattern.specs.Lexing.{Definition}
 use Rattle.lx_flex_pattern.specs.Pieces.{state_of}
 use Rattle.lx_flex_pattern.specs.Reading.{Place, place, Stop, at_end, at_dollar, at_slash, before, row, Lexes, Reads}
@@ -24,17 +26,21 @@ stop_of stops.End = at_end
 stop_of stops.Dollar = at_dollar
 stop_of stops.Slash = at_slash
 
--- from one place another one was reached, and the stack took the lexemes of the parts between
+-- From one place another one was reached. The stack took the lexemes of the parts between, and is kept as this one.
 pub record Reached (o : PatternOptions) (names : List ℕ → Option Definition) (from : Place) (groups : Stack) (here : Place) : Type 0 where
   pub read : List Lexeme
   pub parts : ℕ
-  pub leads : run read (stack empty_frame []) ≡ Some groups
+  pub written : Stack
+  pub leads : run read (stack empty_frame []) ≡ Some written
+  pub kept : IsKeptStack written groups
   pub follows : (k : ℕ) → row (parts + k) o names from ≡ before read (row k o names here)
 
--- the row that begins at the place was read, and the stack took its lexemes
+-- The row that begins at the place was read. The stack took its lexemes, and is kept as this one.
 pub record Stopped (o : PatternOptions) (names : List ℕ → Option Definition) (from : Place) (groups : Stack) (stop : Stop) (last : Place) : Type 0 where
   pub read : List Lexeme
-  pub leads : run read (stack empty_frame []) ≡ Some groups
+  pub written : Stack
+  pub leads : run read (stack empty_frame []) ≡ Some written
+  pub kept : IsKeptStack written groups
   pub lexed : Lexes o names from read stop last
 
 -- what follows parts that were read: the stack and the next place, or the stack, the stop and the place behind it
@@ -54,6 +60,12 @@ outcome_of (part.Done end) = end_of end
 abbrev pub Tells : PatternOptions → (List ℕ → Option Definition) → Place → Outcome → Type 0
 Tells o names from (arrives groups next) = Reached o names from groups next
 Tells o names from (halts groups stop last) = Stopped o names from groups stop last
+
+-- From the place on an alternation is read, and its tree is kept as this one.
+pub record ReadsKept (o : PatternOptions) (names : List ℕ → Option Definition) (from : Place) (kept : Regex) (stop : Stop) (last : Place) : Type 0 where
+  pub written : Regex
+  pub reads : Reads o names from written stop last
+  pub is_kept : IsKeptAs written kept
 
 -- no alternation is read from the place on
 abbrev pub ReadsNothing : PatternOptions → (List ℕ → Option Definition) → Place → Type 0

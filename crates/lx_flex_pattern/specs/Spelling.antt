@@ -1,13 +1,13 @@
 -- The spelling at the front of a flex pattern's text, by computation (flex's manual, "Patterns"). Each function gives what is spelled and the text behind it,
 -- or None if nothing of the kind is spelled.
-use Rattle.std.specs.Prelude.{◌≡◌, codes, ℕ, zero, suc, ◌+◌, Bool, true, false, not, ◌&&◌, ◌||◌, nat_eq, nat_le, if◌then◌else◌, List, [], ◌∷◌, length, take, drop, is_some, Option, Some, None}
+use Rattle.std.specs.Prelude.{codes, ℕ, Bool, true, false, not, ◌&&◌, ◌||◌, nat_eq, nat_le, if◌then◌else◌, List, [], ◌∷◌, length, take, drop, is_some, Option, Some, None}
 use Rattle.std.specs.Option.{option_map, option_and_then}
 use Rattle.std.specs.Ordering.{nat_cmp}
 use Rattle.std.specs.Str.{bytes_eq}
 use Rattle.std.specs.FinSet as set
 use Rattle.lx_ere.specs.Brackets.{begins_with, class_ranges}
-use Rattle.lx_ere.specs.Escapes.{is_digit, letter_byte}
-use Rattle.lx_ere.specs.Lexing.{run_len, number_at, behind_byte, begins_pair, bound_at, opened_at, all_items_at}
+use Rattle.lx_ere.specs.Escapes.{is_digit, number_of, letter_byte}
+use Rattle.lx_ere.specs.Lexing.{run_len, number_at, behind_byte, begins_pair, opened_at, all_items_at}
 use Rattle.lx_ere.specs.Spelling.{is_name_start, is_name_byte}
 use Rattle.lx_flex_pattern.specs.Sets.{is_letter, Member, range, among, outside, members_set, others_set}
 
@@ -52,6 +52,14 @@ name_of n text = if starts_name text then option_map (λ behind. (take n text, b
 -- a definition's name and the closing brace, starting behind the opening one
 abbrev pub name_at : List ℕ → Option (List ℕ × List ℕ)
 name_at text = name_of (run_len is_inner_name_byte (length text) text) text
+
+-- the number that the first n digits spell, and the text behind them
+abbrev pub bound_of : ℕ → List ℕ → Option (ℕ × List ℕ)
+bound_of n text = if nat_eq n 0 then None else Some (number_of 10 (take n text), drop n text)
+
+-- a bound of an interval, which may be any number
+abbrev pub bound_at : List ℕ → Option (ℕ × List ℕ)
+bound_at text = bound_of (run_len (is_digit 10) (length text) text) text
 
 -- the end of an interval behind its comma: at least this many, or from one number to another, of which the last isn't 0
 abbrev pub high_at : ℕ → ℕ × List ℕ → Option ((ℕ × Option ℕ) × List ℕ)

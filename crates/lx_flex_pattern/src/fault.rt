@@ -18,8 +18,8 @@ pub enum PatternFault {
     /// flex doesn't accept the bounds of an interval.
     #[error("the bounds of an interval are none that flex takes")]
     BadInterval,
-    /// A bound of an interval is above 255.
-    #[error("a bound of an interval is above 255")]
+    /// A bound of an interval is above 16,383.
+    #[error("a bound of an interval is above 16383")]
     LargeInterval,
     /// A number after a backslash is above 255.
     #[error("a number behind a backslash is above 255")]

@@ -9,6 +9,7 @@ ghost use Rattle.lx_flex_pattern.specs.Pieces.{definition_of, names_of, pending_
 ghost use Rattle.lx_flex_pattern.specs.Sets as sets;
 ghost use Rattle.lx_flex_pattern.specs.Spelling as spelling;
 
+use crate::bounds::Interval;
 use crate::brackets::{BracketSet, brackets_at};
 use crate::fault::PatternFault;
 use crate::flags::Flags;
@@ -17,7 +18,7 @@ use crate::options::PatternOptions;
 use crate::sets::{byte_set, difference, period_set};
 use crate::spelling::{escape_at, interval_at, name_at, string_at};
 use lx_ere::ByteSet;
-use lx_ere::lexeme::{Lexeme, bound_at, starts_digit};
+use lx_ere::lexeme::{Lexeme, starts_digit};
 use lx_ere::prefix::{begins_pair, begins_with, skip};
 use std::alloc::{AllocError, Global};
 
@@ -54,6 +55,8 @@ pub(crate) struct PatternState {
 #[derive(Drop)]
 pub(crate) enum Piece<'t> {
     Goes(Vec<Lexeme>, PatternState, &'t [u8]),
+    /// An interval, which follows the lexemes.
+    Repeats(Vec<Lexeme>, Interval, PatternState, &'t [u8]),
     /// A definition's text is read next, before the text after its name.
     Inserts(Vec<Lexeme>, PatternState, Vec<u8>, &'t [u8]),
     /// The end of the pattern.
@@ -718,35 +721,29 @@ fn name_piece<'t>(
     }
 }
 
-// Returns the fault of a text that isn't read as an interval.
-fn interval_fault(text: &[u8]) -> PatternFault {
-    let digits = lx_ere::escape::digit_run(10, text.len(), text);
-    if bound_at(text).is_none() && digits != 0 {
-        PatternFault::LargeInterval
-    } else {
-        PatternFault::BadInterval
-    }
-}
-
 // Reads an interval, starting after the `{`.
 fn interval_piece<'t>(
     alloc: Global,
     options: PatternOptions,
     state: PatternState,
     text: &'t [u8],
-) -> Result<Piece<'t>, AllocError>
-    ensures { IfOk result (λ piece. piece_of piece
+) -> Result<Piece<'t>, PatternFault>
+    ensures ok { IfOk result (λ piece. piece_of piece
         ≡ specs.interval_piece options (state_of state) (spelling.interval_at text.now)) }
+    ensures err { IfErr result (λ fault. is_limit fault ≡ true) }
 {
-    let Some(((low, high), behind)) = interval_at(text) else {
-        return Ok(Piece::Wrong(interval_fault(text)));
+    let Some((bounds, behind)) = interval_at(text)? else {
+        return Ok(Piece::Wrong(PatternFault::BadInterval));
     };
-    let lexeme = if options.posix {
-        Lexeme::Interval(low, high)
-    } else {
-        Lexeme::Repeat(low, high)
+    let interval = Interval {
+        bounds,
+        repeats_branch: options.posix,
     };
-    takes(alloc, state, lexeme, behind)
+    let (state, pending) = state.take_pending();
+    let Some(lexemes) = flushed(alloc, pending)? else {
+        return Ok(Piece::Wrong(PatternFault::NoForm));
+    };
+    Ok(Piece::Repeats(lexemes, interval, state.waits(Pending::Nothing), behind))
 }
 
 // Reads the text after a `{`.
@@ -756,9 +753,10 @@ fn brace_piece<'t>(
     names: &NamedPatterns,
     state: PatternState,
     text: &'t [u8],
-) -> Result<Piece<'t>, AllocError>
-    ensures { IfOk result (λ piece. piece_of piece
+) -> Result<Piece<'t>, PatternFault>
+    ensures ok { IfOk result (λ piece. piece_of piece
         ≡ specs.brace_piece options (names_of names.now) (state_of state) text.now) }
+    ensures err { IfErr result (λ fault. is_limit fault ≡ true) }
 {
     if begins_pair(b'-', b'}', text) {
         Ok(operates(alloc, state, false, skip(2, text)))
@@ -767,7 +765,7 @@ fn brace_piece<'t>(
     } else if starts_digit(text) {
         interval_piece(alloc, options, state, text)
     } else {
-        name_piece(alloc, options, names, state, text)
+        Ok(name_piece(alloc, options, names, state, text)?)
     }
 }
 

@@ -1,9 +1,11 @@
 //! Reads the patterns of flex and prints patterns of `lx` that match the same texts.
 #![tactic(auto)]
 
+mod bounds;
 mod brackets;
 pub mod fault;
 pub mod flags;
+mod interval;
 mod lexing;
 pub mod mirror;
 pub mod names;

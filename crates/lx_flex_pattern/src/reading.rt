@@ -1,23 +1,31 @@
 //! Reads flex patterns once from left to right (flex's manual, "Patterns").
 
-ghost use Rattle.std.specs.Prelude.{◌≡◌, ◌≢◌, ◌+◌, ◌-◌, ◌++◌, IfErr, IfOk, IfSome, List, None, Option, Some, false, length, map, true, ℕ};
+ghost use Rattle.std.specs.Prelude.{◌≡◌, ◌≢◌, ◌+◌, ◌-◌, ◌∷◌, ◌++◌, [], IfErr, IfOk, IfSome, IsTrue, List, None, Option, Some, false, length, map, true, ℕ};
 ghost use Rattle.std.specs.Option.{option_map};
 ghost use Rattle.lx_ere.specs.Groups.{groups_of};
 ghost use Rattle.lx_ere.specs.Lexemes.{lexeme_of};
-ghost use Rattle.lx_ere.specs.Regex.{regex_of};
-ghost use Rattle.lx_ere.specs.Stacks.{run};
+ghost use Rattle.lx_ere.specs.Bounds.{has_ordered_bounds};
+ghost use Rattle.lx_ere.specs.Regex.{Regex, regex_of};
+ghost use Rattle.lx_ere.specs.Stacks.{Stack, run, step};
 ghost use Rattle.lx_flex_pattern.specs.Faults.{is_limit};
+ghost use Rattle.lx_flex_pattern.specs.Intervals.{IsKeptAs, KeepsPattern, has_small_bounds};
+ghost use Rattle.lx_flex_pattern.specs.KeptStacks.{AreKeptStacks, IsKeptStack};
 ghost use Rattle.lx_flex_pattern.specs.Lexing.{Definition};
-ghost use Rattle.lx_flex_pattern.specs.Pieces.{names_of, state_of};
-ghost use Rattle.lx_flex_pattern.specs.Progress.{Reached, ReadsNothing, Tells, end_of, halts, outcome_of, place_of, stop_of};
-ghost use Rattle.lx_flex_pattern.specs.Reading.{EndsAt, FlexReading, IsFlexPattern, Place, Reads, at_end, place};
+ghost use Rattle.lx_flex_pattern.specs.Pieces.{interval_of, names_of, state_of};
+ghost use Rattle.lx_flex_pattern.specs.Progress.{Reached, ReadsKept, ReadsNothing, Tells, end_of, halts, outcome_of, place_of, stop_of};
+ghost use Rattle.lx_flex_pattern.specs.Reading.{EndsAt, FlexReading, IsFlexPattern, Place, at_end, place};
 ghost use Rattle.lx_flex_pattern.specs.ReadingOf.{reading_of};
+ghost use Rattle.lx_flex_pattern.specs.Translation.{HaveSameTexts};
 
+use crate::bounds::Interval;
 use crate::fault::PatternFault;
+use crate::interval::repeated;
 use crate::lexing::{PatternState, Piece, piece_at};
 use crate::names::NamedPatterns;
 use crate::options::PatternOptions;
-use lx_ere::groups::{Groups, finish, no_groups, step};
+use lx_ere::groups::{
+    Groups, finish, no_groups, put_branch, put_unit, step, take_branch, take_unit,
+};
 use lx_ere::lexeme::Lexeme;
 use lx_ere::{Expr, Pattern};
 use std::alloc::{AllocError, Global};
@@ -104,6 +112,45 @@ fn take_lexemes(
         groups = next;
     }
     Ok(Some(groups))
+}
+
+// Repeats the last unit or the branch. Returns `None` if there is none.
+fn repeat(alloc: Global, groups: Groups, interval: Interval) -> Result<Option<Groups>, PatternFault>
+    ensures ok { IfOk result (λ o. (written : Stack) → IsKeptStack written (groups_of groups)
+        → AreKeptStacks (step (interval_of interval) written) (option_map groups_of o)) }
+    ensures err { IfErr result (λ fault. is_limit fault ≡ true) }
+{
+    if interval.repeats_branch {
+        let Some((groups, branch)) = take_branch(alloc, groups)? else {
+            return Ok(None);
+        };
+        let branch = repeated(alloc, branch, interval.bounds)?;
+        Ok(Some(put_branch(groups, branch)))
+    } else {
+        let Some((groups, unit)) = take_unit(groups) else {
+            return Ok(None);
+        };
+        let unit = repeated(alloc, unit, interval.bounds)?;
+        Ok(Some(put_unit(groups, unit)))
+    }
+}
+
+// Hands lexemes and then an interval to the open groups. Returns `None` if one isn't allowed there.
+fn take_interval(
+    alloc: Global,
+    groups: Groups,
+    lexemes: Vec<Lexeme>,
+    interval: Interval,
+) -> Result<Option<Groups>, PatternFault>
+    ensures ok { IfOk result (λ o. (written : Stack) → IsKeptStack written (groups_of groups)
+        → AreKeptStacks (run (map lexeme_of lexemes.items ++ interval_of interval ∷ []) written)
+        (option_map groups_of o)) }
+    ensures err { IfErr result (λ fault. is_limit fault ≡ true) }
+{
+    let Some(groups) = take_lexemes(alloc, groups, lexemes)? else {
+        return Ok(None);
+    };
+    repeat(alloc, groups, interval)
 }
 
 // Returns the place at a definition's text.
@@ -202,6 +249,13 @@ fn read_part<'t>(
             };
             let next = place_at_text(alloc, next, front.as_slice(), left, rest)?;
             Ok(RowPart::Done(RowEnd::Inserts(groups, next)))
+        }
+        Piece::Repeats(lexemes, interval, next, rest) => {
+            let left = inserted_left(inserted, text, rest);
+            let Some(groups) = take_interval(alloc, groups, lexemes, interval)? else {
+                return Err(PatternFault::NoForm);
+            };
+            Ok(RowPart::Goes(groups, next, left, rest))
         }
         Piece::Ends(lexemes, last, rest) => {
             let left = inserted_left(inserted, text, rest);
@@ -309,7 +363,7 @@ fn read_alternation(
     names: &NamedPatterns,
     place: PlaceInText,
 ) -> Result<Alternation, PatternFault>
-    ensures ok { IfOk result (λ a. Reads options (names_of names.now) (place_of place)
+    ensures ok { IfOk result (λ a. ReadsKept options (names_of names.now) (place_of place)
         (regex_of a.tree) (stop_of a.stop) (place_of a.last)) }
     ensures refused { IfErr result (λ fault. is_limit fault ≡ false
         → ReadsNothing options (names_of names.now) (place_of place)) }
@@ -377,10 +431,11 @@ fn finished(
 /// Reads the pattern at the start of a text, up to a blank that separates or to the line's end. `names` are the definitions.
 ///
 /// The result is the reading by the grammar of flex (its manual, "Patterns"): an interval applies to the last unit, and a definition's text counts as if
-/// it stood in parentheses in the place of its name, with the exceptions of flex.
+/// it stood in parentheses in the place of its name, with the exceptions of flex. An interval with a bound above 255 is kept as several ones with the
+/// same texts, as `r{512}` as `(r{64}){8}`.
 ///
-/// Err: the cause if flex has no such pattern. A limit if it is too long: the text has at most 4,096 bytes, the pattern at most 1,024 parts, and at
-/// most 128 definitions are expanded.
+/// Err: the cause if flex has no such pattern. A limit if it is too long: the text has at most 4,096 bytes, the pattern at most 1,024 parts, at most
+/// 128 definitions are expanded, a bound of an interval is at most 16,383, and an expression that is copied for one has at most 1,024 parts.
 pub fn read_pattern(
     alloc: Global,
     text: &[u8],
@@ -388,7 +443,7 @@ pub fn read_pattern(
     options: PatternOptions,
 ) -> Result<PatternReading, PatternFault>
     ensures reading { IfOk result
-        (λ r. IsFlexPattern options (names_of names.now) text.now (reading_of r)) }
+        (λ r. KeepsPattern options (names_of names.now) text.now (reading_of r)) }
     ensures refused { IfErr result (λ fault. is_limit fault ≡ false → (r : FlexReading)
         → IsFlexPattern options (names_of names.now) text.now r → ⊥) }
 {
@@ -433,4 +488,13 @@ pub fn read_pattern(
 pub fn one_flex_reading()
     ensures { (o : PatternOptions) (names : List ℕ → Option Definition) (text : List ℕ)
         (r s : FlexReading) → IsFlexPattern o names text r → IsFlexPattern o names text s → r ≡ s }
+{}
+
+/// States laws of the form in which trees are kept: a tree has the texts of the one that it keeps, is the same if no bound is above 255, and has its
+/// bounds in order if that one has.
+pub fn kept_trees_mean_the_same()
+    ensures texts { (t r : Regex) → IsKeptAs t r → HaveSameTexts t r }
+    ensures small { (t r : Regex) → IsTrue (has_small_bounds t) → IsKeptAs t r → t ≡ r }
+    ensures ordered { (t r : Regex) → IsTrue (has_ordered_bounds t) → IsKeptAs t r
+        → IsTrue (has_ordered_bounds r) }
 {}

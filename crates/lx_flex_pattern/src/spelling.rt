@@ -1,13 +1,17 @@
 //! Reads the spelling at the front of a flex pattern's text: escapes, strings, names and bounds (flex's manual, "Patterns").
 
-ghost use Rattle.std.specs.Prelude.{◌≡◌, ◌≤◌, IfOk, length};
+ghost use Rattle.std.specs.Prelude.{◌≡◌, ◌≤◌, IfErr, IfOk, IfSome, length, true};
 ghost use Rattle.std.specs.Option.{option_map};
+ghost use Rattle.lx_ere.specs.Escapes.{number_of};
 ghost use Rattle.lx_ere.specs.Lexing.{run_len};
+ghost use Rattle.lx_flex_pattern.specs.Faults.{is_limit};
+ghost use Rattle.lx_flex_pattern.specs.Limits.{max_flex_bound};
 ghost use Rattle.lx_flex_pattern.specs.Spelling as specs;
 ghost use Rattle.lx_flex_pattern.specs.Spelling.{is_inner_name_byte};
 
-use lx_ere::escape::{digit_run, is_digit, letter_byte, number_at};
-use lx_ere::lexeme::bound_at;
+use crate::bounds::{Bounds, MAX_FLEX_BOUND};
+use crate::fault::PatternFault;
+use lx_ere::escape::{digit_of, digit_run, is_digit, letter_byte, number_at};
 use lx_ere::name::{is_name_byte, is_name_start};
 use lx_ere::prefix::{begins_with, skip, strip_byte};
 use std::alloc::{AllocError, Global};
@@ -113,48 +117,108 @@ pub(crate) fn name_at(text: &[u8]) -> Option<(&[u8], &[u8])>
     Some((&text[..n], behind))
 }
 
+// Returns the number that decimal digits spell. Returns `None` if it's above the limit.
+fn bound_of(digits: &[u8]) -> Option<u16>
+    ensures value { IfSome result (λ n. n ≡ number_of 10 digits.now) }
+    ensures fits { IfSome result (λ n. n ≤ max_flex_bound) }
+{
+    let mut value: u32 = 0;
+    for digit in digits {
+        value = value * 10 + u32::from(digit_of(*digit));
+        if value > u32::from(MAX_FLEX_BOUND) {
+            return None;
+        }
+    }
+    Some(value as u16)
+}
+
+// Reads a bound of an interval.
+fn bound_at(text: &[u8]) -> Result<Option<(u16, &[u8])>, PatternFault>
+    ensures ok { IfOk result
+        (λ o. option_map (λ f. (f.0, f.1.now)) o ≡ specs.bound_at text.now) }
+    ensures fits { IfOk result (λ o. IfSome o (λ f. f.0 ≤ max_flex_bound)) }
+    ensures err { IfErr result (λ fault. is_limit fault ≡ true) }
+{
+    let n = digit_run(10, text.len(), text);
+    if n == 0 {
+        return Ok(None);
+    }
+    match bound_of(&text[..n]) {
+        Some(bound) => Ok(Some((bound, &text[n..]))),
+        None => Err(PatternFault::LargeInterval),
+    }
+}
+
 // Reads the end of an interval after its last bound.
-fn high_at(low: u8, high: u8, text: &[u8]) -> Option<((u8, Option<u8>), &[u8])>
-    ensures { option_map (λ f. (f.0, f.1.now)) result ≡ specs.high_at low (high, text.now) }
+fn high_at(low: u16, high: u16, text: &[u8]) -> Option<(Bounds, &[u8])>
+    requires { high ≤ max_flex_bound }
+    ensures { option_map (λ f. ((f.0.low, f.0.high), f.1.now)) result
+        ≡ specs.high_at low (high, text.now) }
 {
     if low > high || high == 0 {
         return None;
     }
     let behind = strip_byte(b'}', text)?;
-    Some(((low, Some(high)), behind))
+    let bounds = Bounds {
+        low,
+        high: Some(high),
+    };
+    Some((bounds, behind))
 }
 
 // Reads the rest of an interval after its comma.
-fn behind_comma_at(low: u8, text: &[u8]) -> Option<((u8, Option<u8>), &[u8])>
-    ensures { option_map (λ f. (f.0, f.1.now)) result ≡ specs.behind_comma_at low text.now }
+fn behind_comma_at(low: u16, text: &[u8]) -> Result<Option<(Bounds, &[u8])>, PatternFault>
+    requires { low ≤ max_flex_bound }
+    ensures ok { IfOk result (λ o. option_map (λ f. ((f.0.low, f.0.high), f.1.now)) o
+        ≡ specs.behind_comma_at low text.now) }
+    ensures err { IfErr result (λ fault. is_limit fault ≡ true) }
 {
     if begins_with(b'}', text) {
         if low == 0 {
-            return None;
+            return Ok(None);
         }
-        return Some(((low, None), skip(1, text)));
+        let bounds = Bounds { low, high: None };
+        return Ok(Some((bounds, skip(1, text))));
     }
-    let (high, rest) = bound_at(text)?;
-    high_at(low, high, rest)
+    let Some((high, rest)) = bound_at(text)? else {
+        return Ok(None);
+    };
+    Ok(high_at(low, high, rest))
 }
 
 // Reads the rest of an interval after its first bound.
-fn behind_low_at(low: u8, text: &[u8]) -> Option<((u8, Option<u8>), &[u8])>
-    ensures { option_map (λ f. (f.0, f.1.now)) result ≡ specs.behind_low_at (low, text.now) }
+fn behind_low_at(low: u16, text: &[u8]) -> Result<Option<(Bounds, &[u8])>, PatternFault>
+    requires { low ≤ max_flex_bound }
+    ensures ok { IfOk result (λ o. option_map (λ f. ((f.0.low, f.0.high), f.1.now)) o
+        ≡ specs.behind_low_at (low, text.now)) }
+    ensures err { IfErr result (λ fault. is_limit fault ≡ true) }
 {
     if begins_with(b'}', text) {
         if low == 0 {
-            return None;
+            return Ok(None);
         }
-        return Some(((low, Some(low)), skip(1, text)));
+        let bounds = Bounds {
+            low,
+            high: Some(low),
+        };
+        return Ok(Some((bounds, skip(1, text))));
     }
-    behind_comma_at(low, strip_byte(b',', text)?)
+    match strip_byte(b',', text) {
+        Some(behind) => behind_comma_at(low, behind),
+        None => Ok(None),
+    }
 }
 
-/// Reads the bounds of an interval and its closing brace, starting after the opening one. Returns `None` also for bounds above 255.
-pub(crate) fn interval_at(text: &[u8]) -> Option<((u8, Option<u8>), &[u8])>
-    ensures { option_map (λ f. (f.0, f.1.now)) result ≡ specs.interval_at text.now }
+/// Reads the bounds of an interval and its closing brace, starting after the opening one.
+///
+/// Err: [`PatternFault::LargeInterval`] if a bound is above the limit.
+pub(crate) fn interval_at(text: &[u8]) -> Result<Option<(Bounds, &[u8])>, PatternFault>
+    ensures ok { IfOk result (λ o. option_map (λ f. ((f.0.low, f.0.high), f.1.now)) o
+        ≡ specs.interval_at text.now) }
+    ensures err { IfErr result (λ fault. is_limit fault ≡ true) }
 {
-    let (low, rest) = bound_at(text)?;
+    let Some((low, rest)) = bound_at(text)? else {
+        return Ok(None);
+    };
     behind_low_at(low, rest)
 }

@@ -1,6 +1,5 @@
-use Rattle.std.proofs.Common.{true, sym, ◌∙◌, ap, drop}
-use Rattle.lx_ere.specs.ChoiceLaws.{pick_first}
-use Rattle.lx_flex_pattern.specs.Spelling.{is_excluding, members_at}
+use Rattle.std.proofs.Common.{sym, ◌∙◌, drop}
+use Rattle.lx_flex_pattern.specs.Spelling.{members_at}
 use Rattle.lx_flex_pattern.proofs.BracketLemmas.{others, others_none}
 use Rattle.lx_flex_pattern.proofs.brackets.brackets_at.Goals as goal
 

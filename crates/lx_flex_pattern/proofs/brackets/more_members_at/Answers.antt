@@ -1,9 +1,8 @@
-use Rattle.std.proofs.Common.{◌≡◌, ℕ, false, suc, ◌+◌, ◌-◌, [], ◌∷◌, ◌++◌, List, Some, map, refl, sym, ap, subst, ◌∙◌, arith, drop, length, append-nil, append_assoc}
+use Rattle.std.proofs.Common.{◌≡◌, ℕ, false, suc, ◌+◌, ◌-◌, [], ◌∷◌, ◌++◌, Some, map, sym, ap, subst, ◌∙◌, arith, drop, length, append-nil, append_assoc}
 use Rattle.std.proofs.lemmas.List.{map-append}
 use Rattle.std.specs.Option.{option_map}
 use Rattle.lx_ere.specs.ScanLaws.{Fueled, fuel_start, fuel_end, fuel_none, fuel_step, fuel_out}
 use Rattle.lx_flex_pattern.specs.Members.{member_of}
-use Rattle.lx_flex_pattern.specs.Sets.{Member}
 use Rattle.lx_flex_pattern.specs.Spelling.{member_at}
 use Rattle.lx_flex_pattern.proofs.brackets.more_members_at.Goals as goal
 

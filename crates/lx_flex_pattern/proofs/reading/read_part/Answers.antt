@@ -1,12 +1,10 @@
-use Rattle.std.proofs.Common.{◌≡◌, List, map, refl, sym, ap}
+use Rattle.std.proofs.Common.{[], ◌∷◌, ◌++◌, map, sym, ap}
 use Rattle.std.proofs.lemmas.Result.{err_from_is_err_and}
 use Rattle.lx_ere.specs.Groups.{groups_of}
 use Rattle.lx_ere.specs.Lexemes.{lexeme_of}
-use Rattle.lx_flex_pattern.specs.Lexing.{piece_at}
-use Rattle.lx_flex_pattern.specs.Pieces.{names_of, state_of}
-use Rattle.lx_flex_pattern.specs.Progress.{Reached}
-use Rattle.lx_flex_pattern.specs.Reading.{Place, place, at_end, at_dollar, at_slash, behind_part, row_of, row}
-use Rattle.lx_flex_pattern.proofs.Reaching.{lexemes_of, reach_goes, reach_inserts, tells_stop, reads_no_part, reads_no_lexemes}
+use Rattle.lx_flex_pattern.specs.Pieces.{interval_of, names_of, state_of}
+use Rattle.lx_flex_pattern.specs.Reading.{place, at_end, at_dollar, at_slash, behind_part, row_of, row}
+use Rattle.lx_flex_pattern.proofs.Reaching.{lexemes_of, reach_goes, reach_interval, reach_inserts, tells_stop, reads_no_part, reads_no_lexemes, reads_no_interval}
 use Rattle.lx_flex_pattern.proofs.reading.read_part.Goals as goal
 
 pub returns-in_default-clause-refused : goal.returns-in_default-clause-refused
@@ -73,3 +71,14 @@ returns-in_ok-end-in-Slash-clause-ok c = λ from r.
     tells_stop c.args.options (names_of c.args.names.now) from (place (state_of c.args.state) c.args.inserted c.args.text.now) (behind_part (place (state_of c.args.state) c.args.inserted c.args.text.now) (state_of c.in-Slash.last) c.in-Slash.rest.now) (groups_of c.args.groups) (map lexeme_of c.in-Slash.lexemes.items) at_slash _
     (ap (row_of (row 0 c.args.options (names_of c.args.names.now)) (place (state_of c.args.state) c.args.inserted c.args.text.now)) (sym (rw c.in-Slash.is at c.in_ok-piece.ensures.ok)))
     (rw c.inserted_left-left-in-Slash.ensures at c.in_ok-end-in-Slash.ensures.ok) r
+
+pub returns-in_default-3-clause-refused : goal.returns-in_default-3-clause-refused
+returns-in_default-3-clause-refused c = λ _ from r.
+    reads_no_interval c.args.options (names_of c.args.names.now) from (place (state_of c.args.state) c.args.inserted c.args.text.now) (groups_of c.args.groups) (map lexeme_of c.in-Repeats.lexemes.items ++ interval_of c.in-Repeats.interval ∷ [])
+    (ap lexemes_of (sym (rw c.in-Repeats.is at c.in_ok-piece.ensures.ok))) (rw c.in_default-3.is at c.in_ok-groups-in-Repeats.ensures.ok) r
+
+pub returns-in-Some-3-clause-ok : goal.returns-in-Some-3-clause-ok
+returns-in-Some-3-clause-ok c = λ from r.
+    rw c.inserted_left-left-in-Repeats.ensures
+    (reach_interval c.args.options (names_of c.args.names.now) from (place (state_of c.args.state) c.args.inserted c.args.text.now) (groups_of c.args.groups) (groups_of c.in-Some-3.groups) (map lexeme_of c.in-Repeats.lexemes.items ++ interval_of c.in-Repeats.interval ∷ []) (state_of c.in-Repeats.next) c.in-Repeats.rest.now
+    (sym (rw c.in-Repeats.is at c.in_ok-piece.ensures.ok)) (rw c.in-Some-3.is at c.in_ok-groups-in-Repeats.ensures.ok) r)

@@ -1,8 +1,8 @@
-use Rattle.std.proofs.Common.{◌≡◌, ℕ, [], ◌∷◌, List, length, map, Option, Some, None, refl, sym, ap, subst, ◌∙◌, arith}
+use Rattle.std.proofs.Common.{◌≡◌, [], ◌∷◌, List, length, map, refl, sym, ap, ◌∙◌, arith}
 use Rattle.std.specs.Option.{option_and_then}
 use Rattle.lx_ere.specs.Groups.{groups_of}
 use Rattle.lx_ere.specs.Lexemes.{lexeme_of}
-use Rattle.lx_ere.specs.Stacks.{run, step}
+use Rattle.lx_ere.specs.Stacks.{run}
 use Rattle.lx_flex_pattern.proofs.reading.take_lexemes.Goals as goal
 
 no_items : {A : Type 0} (xs : List A) → length xs ≡ 0 → xs ≡ []

@@ -5,4 +5,7 @@ use Rattle.lx_ere.specs.ByteLaws.{own_bytes}
 use Rattle.lx_ere.proofs.set.ByteSet.duplicate.Goals as goal
 
 pub returns : goal.returns
-returns c = rw (← c.self.view_is) (own_bytes (has_bit c.self.inside.words))
+returns c = record {
+  same = c.self.view_is;
+  listed = rw (← c.self.view_is) (own_bytes (has_bit c.self.inside.words));
+}

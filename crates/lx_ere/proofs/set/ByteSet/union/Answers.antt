@@ -8,7 +8,7 @@ use Rattle.lx_ere.proofs.set.ByteSet.union.Goals.{then-has, else-has}
 pub loop-byte-init : goal.loop-byte-init
 loop-byte-init c = record {
   within = omega arith;
-  added = c.duplicate-union.ensures ∙ fill_start (λ b. byte_sets.contains c.args.other.now b) (λ b. byte_sets.contains c.args.self.now b);
+  added = c.duplicate-union.ensures.listed ∙ fill_start (λ b. byte_sets.contains c.args.other.now b) (λ b. byte_sets.contains c.args.self.now b);
 }
 
 pub returns-after-has : goal.returns-after-has
