@@ -1,1 +1,3 @@
+mod Joining
+pub mod TextForms
 mod TextLengths

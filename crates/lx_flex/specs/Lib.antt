@@ -1,3 +1,4 @@
+pub mod Activity
 pub mod Imported
 pub mod Lengths
 pub mod views

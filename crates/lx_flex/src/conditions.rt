@@ -1,5 +1,8 @@
 //! Start conditions (flex's manual, "Start Conditions").
 
+ghost use Rattle.std.specs.Prelude.{◌≡◌, ◌<◌, IfOk, length, map};
+ghost use Rattle.lx_flex.specs.Activity.{condition_number, joined};
+
 use crate::cursor::front;
 use std::alloc::{AllocError, Global};
 
@@ -14,7 +17,10 @@ pub struct FlexCondition {
 }
 
 /// Returns the number of the condition with this name. `INITIAL` and `0` are the first one.
-pub(crate) fn place_of(conditions: &[FlexCondition], name: &[u8]) -> Option<u16> {
+pub(crate) fn place_of(conditions: &[FlexCondition], name: &[u8]) -> Option<u16>
+    ensures { length conditions.now < 65536
+        → result ≡ condition_number (map (λ c. c.name.items) conditions.now) name.now }
+{
     if name == b"0".as_slice() {
         return Some(0);
     }
@@ -82,12 +88,15 @@ pub(crate) fn name_at(text: &[u8]) -> &[u8] {
 }
 
 /// Returns the numbers that are in either list, in ascending order.
+#[tactic(auto, using(crate::proofs::Joining::joined_with, crate::proofs::Joining::joined_without))]
 pub(crate) fn union(
     alloc: Global,
     count: u16,
     one: &[u16],
     other: &[u16],
-) -> Result<Vec<u16>, AllocError> {
+) -> Result<Vec<u16>, AllocError>
+    ensures { IfOk result (λ v. v.items ≡ joined count one.now other.now) }
+{
     let mut numbers = Vec::new(alloc);
     for number in 0..count {
         if one.contains(&number) || other.contains(&number) {

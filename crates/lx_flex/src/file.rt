@@ -3,7 +3,7 @@
 use crate::cursor::{FilePlace, TextCursor, TextRange};
 use crate::definitions::{Declared, FlexDefinition, read_definitions};
 use crate::options::FlexOptions;
-use crate::report::{ImportCause, ImportFault, ReadFault, Reports, stop};
+use crate::report::{ImportCause, ReadFault, Reports, stop};
 use crate::rules::{FlexRules, RuleAction, read_rules};
 use lx_flex_pattern::NamedPatterns;
 use lx_rules::limits::MAX_SPECIFICATION_BYTES;
@@ -92,6 +92,7 @@ fn read_sections<'a>(
     }
     let mut cursor = TextCursor::new(text);
     let declared = read_definitions(alloc, &mut cursor, options, reports)?;
+    reports.warns = declared.options.is_on(b"warn");
     judge_options(&declared.options, reports)?;
     let names = expanded_names(alloc, declared.definitions.as_slice())?;
     let rules = read_rules(alloc, &mut cursor, &declared, &names, reports)?;
@@ -105,30 +106,28 @@ fn read_sections<'a>(
     })
 }
 
-/// Reads a file for lex or flex. `options` has those of the command line.
-///
-/// Err: reports of all faults, in the order of the file.
+/// Reads a file for lex or flex. `options` has those of the command line. Returns the file, unless a report is fatal, and the reports of all faults
+/// and warnings.
 pub fn read_file<'a>(
     alloc: Global,
     text: &'a [u8],
     options: FlexOptions,
-) -> Result<FlexFile<'a>, ImportFault> {
+) -> Result<(Option<FlexFile<'a>>, Reports), AllocError> {
     let mut reports = Reports {
         list: Vec::new(alloc),
         fatal: false,
         lossy: false,
+        warns: false,
     };
     match read_sections(alloc, text, options, &mut reports) {
         Ok(file) => {
-            if reports.fatal {
-                return Err(ImportFault::Refused(reports.list));
-            }
-            Ok(file)
+            let file = if reports.fatal { None } else { Some(file) };
+            Ok((file, reports))
         }
-        Err(ReadFault::Memory) => Err(ImportFault::Memory),
+        Err(ReadFault::Memory) => Err(AllocError),
         Err(ReadFault::At(report)) => {
             reports.add(report.place, report.cause, true)?;
-            Err(ImportFault::Refused(reports.list))
+            Ok((None, reports))
         }
     }
 }

@@ -208,6 +208,7 @@ pub fn import(alloc: Global, text: &[u8], options: ImportOptions) -> Result<Impo
         list: Vec::new(alloc),
         fatal: false,
         lossy: options.lossy,
+        warns: false,
     };
     let draft = match draft_of(alloc, text, options, &mut reports) {
         Ok(draft) => draft,

@@ -1,15 +1,16 @@
 //! The lengths and bytes of the texts that an expression matches.
 
-ghost use Rattle.std.specs.Prelude.{IfSome};
+ghost use Rattle.std.specs.Prelude.{◌≡◌, false, IfSome};
 ghost use Rattle.lx_ere.specs.Regex.{regex_of};
-ghost use Rattle.lx_flex.specs.Lengths.{HasLength};
+ghost use Rattle.lx_flex.specs.Lengths.{HasLength, HasNoNewline, length_of, matches_empty};
 
 use lx_ere::Expr;
 
 /// Returns the length of all texts that the expression matches, if it is found to be the same for all.
-#[tactic(auto, using(crate::proofs::TextLengths::nil_length, crate::proofs::TextLengths::set_length, crate::proofs::TextLengths::then_length, crate::proofs::TextLengths::or_length, crate::proofs::TextLengths::times_length, crate::proofs::TextLengths::no_length))]
+#[tactic(auto, using(crate::proofs::TextLengths::nil_length, crate::proofs::TextLengths::set_length, crate::proofs::TextLengths::then_length, crate::proofs::TextLengths::or_length, crate::proofs::TextLengths::times_length, crate::proofs::TextLengths::no_length, crate::proofs::TextForms::counted))]
 pub fn fixed_length(tree: &Expr) -> Option<u32>
-    ensures { IfSome result (HasLength (regex_of tree.now)) }
+    ensures form { result ≡ length_of (regex_of tree.now) }
+    ensures meaning { IfSome result (HasLength (regex_of tree.now)) }
 {
     match tree {
         Expr::Nil => Some(0),
@@ -39,7 +40,9 @@ pub fn fixed_length(tree: &Expr) -> Option<u32>
 }
 
 /// Returns true if the expression matches the empty text. A name isn't known, and counts as false.
-pub fn matches_empty(tree: &Expr) -> bool {
+pub fn matches_empty(tree: &Expr) -> bool
+    ensures { result ≡ matches_empty (regex_of tree.now) }
+{
     match tree {
         Expr::Nil => true,
         Expr::Set(_) => false,
@@ -51,7 +54,10 @@ pub fn matches_empty(tree: &Expr) -> bool {
 }
 
 /// Returns false if no text that the expression matches has a newline.
-pub fn may_have_newline(tree: &Expr) -> bool {
+#[tactic(auto, using(crate::proofs::TextForms::nil_newline, crate::proofs::TextForms::set_newline, crate::proofs::TextForms::then_newline, crate::proofs::TextForms::or_newline, crate::proofs::TextForms::times_newline))]
+pub fn may_have_newline(tree: &Expr) -> bool
+    ensures { result ≡ false → HasNoNewline (regex_of tree.now) }
+{
     match tree {
         Expr::Nil => false,
         Expr::Set(set) => set.has(b'\n'),
@@ -62,6 +68,22 @@ pub fn may_have_newline(tree: &Expr) -> bool {
             low: _,
             high: _,
         } => may_have_newline(body),
+        Expr::Name(_) => true,
+    }
+}
+
+/// Returns true if the expression has an operator for which flex takes its texts to have several lengths: `|`, `*`, `+`, `?` or an interval.
+pub fn has_operator(tree: &Expr) -> bool {
+    match tree {
+        Expr::Nil => false,
+        Expr::Set(_) => false,
+        Expr::Then(first, second) => has_operator(first) || has_operator(second),
+        Expr::Or(_, _) => true,
+        Expr::Times {
+            body: _,
+            low: _,
+            high: _,
+        } => true,
         Expr::Name(_) => true,
     }
 }

@@ -18,9 +18,10 @@ mod printing;
 pub mod report;
 pub mod rules;
 pub mod tokens;
+mod warning;
 
 pub use crate::cursor::{FilePlace, TextRange};
 pub use crate::importing::{ImportOptions, Imported, import};
 pub use crate::judging::ImportedRule;
 pub use crate::naming::ImportedDefinition;
-pub use crate::report::{ImportCause, ImportFault, ImportReport};
+pub use crate::report::{ImportCause, ImportFault, ImportReport, Reports, Taker};

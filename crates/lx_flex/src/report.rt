@@ -78,6 +78,72 @@ pub enum ImportCause {
     Refused(lx_spec::Code),
     #[error("lx reads what would be printed otherwise")]
     NotTheSame,
+    #[error("rule cannot be matched: {0}")]
+    NeverMatched(Taker),
+    #[error("-s option given but default rule can be matched: no rule takes some of the bytes")]
+    DefaultMatched,
+    #[error("dangerous trailing context: the token is the longest text of r such that s matches the rest, and flex may take a longer one")]
+    DangerousContext,
+    #[error("the token before its context can be empty: the scanner loops if the action neither changes the condition nor reads on")]
+    EmptyToken,
+    #[error("an interval repeats the unit before it in flex, and all before it in its branch in POSIX")]
+    IntervalBinding,
+}
+
+/// What takes the texts of a rule that is never matched.
+#[derive(Debug, Clone, Copy, PartialEq, Eq, Error)]
+pub enum Taker {
+    /// One rule, at this place.
+    #[error("an earlier rule takes all its texts")]
+    One(FilePlace),
+    /// Several rules, the first of them at this place, if it is known.
+    #[error("earlier rules take all its texts")]
+    Several(FilePlace),
+    /// The rule matches the empty text alone.
+    #[error("it matches no text of a byte or more")]
+    None,
+}
+
+impl ImportCause {
+    /// Returns what to do, if the text of the cause doesn't say it.
+    pub fn hint(&self) -> Option<&'static str> {
+        match self {
+            ImportCause::NeverMatched(_) => Some(
+                "put it before what takes its texts, or delete it",
+            ),
+            ImportCause::DefaultMatched => Some("take each other byte by a last rule: <*>.|\\n"),
+            ImportCause::DangerousContext => Some(
+                "flex takes the same text if r or s has no |, *, +, ? or interval, and the rule before has no action |",
+            ),
+            ImportCause::EmptyToken => Some("write + for * before the context"),
+            ImportCause::IntervalBinding => Some(
+                "write a(b{2}) or (ab){2} for ab{2}, which both read alike",
+            ),
+            _ => None,
+        }
+    }
+
+    /// Returns what takes the texts of the rule, if it is never matched.
+    pub fn taker(&self) -> Option<Taker> {
+        match self {
+            ImportCause::NeverMatched(taker) => Some(*taker),
+            _ => None,
+        }
+    }
+
+    /// Returns true if it is about a whole pattern.
+    fn is_of_pattern(&self) -> bool {
+        matches!(
+            self,
+            ImportCause::Pattern(_)
+                | ImportCause::RejectInScanner
+                | ImportCause::DanglingBar
+                | ImportCause::NeverMatched(_)
+                | ImportCause::DangerousContext
+                | ImportCause::EmptyToken
+                | ImportCause::IntervalBinding
+        )
+    }
 }
 
 /// A report on a place.
@@ -87,6 +153,17 @@ pub struct ImportReport {
     pub cause: ImportCause,
     /// True if it prevents the import of the file.
     pub fatal: bool,
+}
+
+impl ImportReport {
+    /// Returns the number of bytes that the report is about. `text` begins at its place.
+    pub fn width(&self, text: &[u8]) -> usize {
+        if self.cause.is_of_pattern() {
+            lx_ere::pattern_end(text)
+        } else {
+            1
+        }
+    }
 }
 
 /// Reason why reading stops.
@@ -132,13 +209,16 @@ impl<T: Drop> From<AllocFailed<T>> for ImportFault {
 /// Greatest number of reports that are kept.
 const MAX_REPORTS: usize = 1000;
 
-/// The reports that were made.
-#[derive(Drop)]
-pub(crate) struct Reports {
-    pub(crate) list: Vec<ImportReport>,
-    pub(crate) fatal: bool,
+/// The reports that were made, in the order of the text.
+#[derive(Debug, Drop)]
+pub struct Reports {
+    pub list: Vec<ImportReport>,
+    /// True if one of them is fatal.
+    pub fatal: bool,
     /// True if a loss is only reported.
     pub(crate) lossy: bool,
+    /// True if warnings are reported.
+    pub warns: bool,
 }
 
 impl Reports {
@@ -163,7 +243,7 @@ impl Reports {
     }
 
     /// Adds a report, after those on its line and on earlier ones. Above the limit, the last report says that there are more.
-    pub(crate) fn add(
+    pub fn add(
         &mut self,
         place: FilePlace,
         cause: ImportCause,
@@ -186,6 +266,14 @@ impl Reports {
             })?;
         }
         Ok(())
+    }
+
+    /// Adds a warning, if warnings are reported.
+    pub fn warn(&mut self, place: FilePlace, cause: ImportCause) -> Result<(), AllocError> {
+        if !self.warns {
+            return Ok(());
+        }
+        self.add(place, cause, false)
     }
 
     /// Adds a report of a loss. It is fatal unless losses are only reported.

@@ -5,6 +5,7 @@ use crate::conditions::{name_at, place_of, union};
 use crate::cursor::{FilePlace, TextCursor, TextRange, blank_run, front, is_blank, skip};
 use crate::definitions::{Declared, add_code};
 use crate::report::{ImportCause, ReadFault, Reports, stop};
+use crate::warning::warn_of_pattern;
 use lx_flex_pattern::reading::MAX_FLEX_PATTERN_BYTES;
 use lx_flex_pattern::{NamedPatterns, PatternFault, PatternReading, read_pattern};
 use lx_rules::limits::MAX_RULES;
@@ -212,6 +213,11 @@ fn read_rule_pattern(
     let place = cursor.place();
     match pattern_at(alloc, cursor.rest(), declared, names) {
         Ok(reading) => {
+            if reports.warns {
+                let options = declared.options.for_patterns();
+                let text = front(reading.length, cursor.rest());
+                warn_of_pattern(alloc, place, text, &reading, names, options, reports)?;
+            }
             cursor.advance(reading.length);
             if is_behind_pattern(cursor) {
                 return Ok(Some(reading));

@@ -1,5 +1,5 @@
 -- The rules that are chosen for some text (XCU `lex`, "Rules in lex").
-use Rattle.std.specs.Prelude.{◌≡◌, ℕ, ◌<◌, Bool, true, false, All, List, Some, length, slice_index_or}
+use Rattle.std.specs.Prelude.{◌≡◌, ℕ, ◌<◌, Bool, true, false, All, Contains, List, Some, length, slice_index_or}
 use Rattle.lx_rules.specs.Choice.{IsChoice}
 use Rattle.lx_rules.specs.Plain.{PlainSpec}
 use Rattle.lx_tables.specs.Model.{Table}
@@ -24,6 +24,11 @@ pub record AreFlagsOf (count : ℕ) (Holds : ℕ → Type 0) (flags : List Bool)
   pub long : length flags ≡ count
   pub holds : (n : ℕ) → slice_index_or flags n false ≡ true → Holds n
   pub fails : (n : ℕ) → slice_index_or flags n false ≡ false → Holds n → ⊥
+
+-- These are the rules below a number that are never chosen.
+pub record AreNeverChosen (table : Table) (count : ℕ) (rules : List ℕ) : Type 0 where
+  pub all : (rule : ℕ) → rule < count → (IsEverChosen table rule → ⊥) → Contains rules rule
+  pub only : All (λ rule. IsEverChosen table rule → ⊥) rules
 
 -- ---- by the rules of a specification, without tables
 -- In this condition, at line begin or elsewhere, the rule is chosen for some text of bytes.

@@ -2,7 +2,7 @@
 
 ghost use Rattle.std.specs.Prelude.{◌≡◌, ◌<◌, ◌≤◌, ◌⊎◌, ℕ, true, false, IfOk, length, slice_index, slice_index_or};
 ghost use Rattle.lx_automaton.specs.Automata.{state_count};
-ghost use Rattle.lx_reach.specs.Chosen.{AreFlagsOf, IsChosenIn, IsEverChosen};
+ghost use Rattle.lx_reach.specs.Chosen.{AreFlagsOf, AreNeverChosen, IsChosenIn, IsEverChosen};
 ghost use Rattle.lx_reach.specs.Taken.{AreCounted, IsCounted, IsTaken};
 
 use crate::reached::{reached_states, targets_of};
@@ -84,4 +84,27 @@ pub fn chosen_in(alloc: Global, tables: &Tables, condition: u16) -> Result<Vec<b
     // a law: there are few conditions
     tables_are_well_formed(tables);
     takable_rules(alloc, tables, condition, condition + 1)
+}
+
+fn is_unset(flags: &[bool], number: u16) -> bool
+    requires { number < length flags.now }
+    ensures unset { result ≡ true → slice_index_or flags.now number false ≡ false }
+    ensures set { result ≡ false → slice_index_or flags.now number false ≡ true }
+{
+    !flags[number as usize]
+}
+
+/// Returns the rules that aren't the choice for any text of bytes, in any condition, in ascending order. Err: an allocation failed.
+pub fn never_chosen(alloc: Global, tables: &Tables) -> Result<Vec<u16>, AllocError>
+    ensures { IfOk result
+        (λ rules. AreNeverChosen tables.now (length tables.now.rules) rules.items) }
+{
+    let chosen = chosen_rules(alloc, tables)?;
+    let mut rules = Vec::new(alloc);
+    for number in 0..tables.rules() {
+        if is_unset(&chosen, number) {
+            rules.push(number)?;
+        }
+    }
+    Ok(rules)
 }

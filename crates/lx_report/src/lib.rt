@@ -20,4 +20,5 @@ pub use crate::subject::ReportSubject;
 pub use bytes::{push_number, push_shown};
 pub use finding::{Finding, ReportPlace, Severity};
 pub use lines::{push_finding, push_marked};
+pub use pieces::push_count;
 pub use sarif::{push_result, push_sarif_end, push_sarif_start};

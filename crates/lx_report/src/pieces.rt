@@ -1,6 +1,6 @@
 //! Appends parts of a report to a text. If an allocation fails, a part was appended.
 
-ghost use Rattle.std.specs.Prelude.{◌≡◌, ◌++◌, OnOk};
+ghost use Rattle.std.specs.Prelude.{◌≡◌, ◌==◌, ◌++◌, OnOk, decimal, if◌then◌else◌};
 ghost use Rattle.std.specs.List.{flat_map};
 ghost use Rattle.lx_report.specs.Said.{Extends};
 ghost use Rattle.lx_report.specs.Bytes.{shown_byte};
@@ -77,14 +77,16 @@ pub(crate) fn push_note(
     push_line(text, file, Severity::Note, place, b"", words, b"")
 }
 
-/// Appends a number and a word, which is `one` for 1 and otherwise `more`.
-pub(crate) fn push_count(
+/// Appends a number and a word, which is `one` for 1 and otherwise `more`. Err: an allocation failed.
+pub fn push_count(
     text: &mut Vec<u8>,
     count: usize,
     one: &[u8],
     more: &[u8],
 ) -> Result<(), AllocError>
-    ensures { OnOk result (Extends text.old.items text.new.items) }
+    ensures value { OnOk result (text.new.items
+        ≡ text.old.items ++ (decimal count ++ (if count == 1 then one.now else more.now))) }
+    ensures extends { OnOk result (Extends text.old.items text.new.items) }
 {
     push_number(text, count as u64)?;
     if count == 1 {

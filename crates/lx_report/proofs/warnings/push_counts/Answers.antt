@@ -8,8 +8,8 @@ returns c =
     (λ h. extends_more _ _ _
     (extends_more _ _ _
     (extends_more _ _ _
-    (extends_more _ _ _ (extends_more _ _ _ c.in_ok-push_count.ensures c.in_ok-push_count-2.ensures) c.in_ok-push_count-3.ensures)
-    c.in_ok-push_count-4.ensures)
-    c.in_ok-push_count-5.ensures)
+    (extends_more _ _ _ (extends_more _ _ _ c.in_ok-push_count.ensures.extends c.in_ok-push_count-2.ensures.extends) c.in_ok-push_count-3.ensures.extends)
+    c.in_ok-push_count-4.ensures.extends)
+    c.in_ok-push_count-5.ensures.extends)
     h)
-    c.push_count-6.ensures
+    c.push_count-6.ensures.extends
