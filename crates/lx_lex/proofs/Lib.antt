@@ -1,2 +1,5 @@
+mod CutParts
+mod Parts
 mod Plain
+mod Reversal
 mod Walking

@@ -161,11 +161,11 @@ module _ (m : Machine) (h : IsMachine m) where
       let read : get_or (read_words 0 (class_entries m)) (suc b) 0 ≡ slice_index m.classes (suc b) = ap (λ ns. get_or ns (suc b) 0) (classes_read m h) ∙ (class_at (suc b) l ∙ rw (not_zero b) refl) in
       rw (not_zero b) read
 
-  abbrev IsState : Option ℕ → Type 0
+  abbrev pub IsState : Option ℕ → Type 0
   IsState o = (s : ℕ) → o ≡ Some s → s < state_count m
 
   -- the place of the row of a state, or that of the row of zeros
-  walk_is : (o : Option ℕ) (w : List ℕ) → IsState o → All (λ b. b < 256) w → walk (numbers_of m) (target_word m o) w ≡ target_word m (state_after m o w)
+  pub walk_is : (o : Option ℕ) (w : List ℕ) → IsState o → All (λ b. b < 256) w → walk (numbers_of m) (target_word m o) w ≡ target_word m (state_after m o w)
   walk_is None [] states bytes = refl
   walk_is (Some s) [] states bytes = refl
   walk_is None (b ∷ w) states bytes =
@@ -184,14 +184,14 @@ module _ (m : Machine) (h : IsMachine m) where
       ap (λ (place : ℕ). walk (numbers_of m) place w) goes
       ∙ walk_is (target_of m s b) w (λ t e. h.closed s (slice_index m.classes b) t there (h.below b low) e) (All-tail (λ b. b < 256) b w bytes)
 
-  after_is : (o : Option ℕ) (w : List ℕ) → IsState o → All (λ b. b < 256) w → IsState (state_after m o w)
+  pub after_is : (o : Option ℕ) (w : List ℕ) → IsState o → All (λ b. b < 256) w → IsState (state_after m o w)
   after_is None w states bytes = states
   after_is (Some s) [] states bytes = states
   after_is (Some s) (b ∷ w) states bytes =
       let low = All-head (λ b. b < 256) b w bytes in
       after_is (target_of m s b) w (λ t e. h.closed s (slice_index m.classes b) t (states s refl) (h.below b low) e) (All-tail (λ b. b < 256) b w bytes)
 
-  rule_at : (o : Option ℕ) → IsState o → numbered_rule (slice_index (numbers_of m).rows (target_word m o + m.width)) ≡ accepted_at m o
+  pub rule_at : (o : Option ℕ) → IsState o → numbered_rule (slice_index (numbers_of m).rows (target_word m o + m.width)) ≡ accepted_at m o
   rule_at None states = ap numbered_rule (ap (λ ns. get_or ns (0 + m.width) 0) (rows_read m h) ∙ zero_at (0 + m.width) (omega arith))
   rule_at (Some s) states =
       let place : m.width ≡ m.width + 0 = omega arith in

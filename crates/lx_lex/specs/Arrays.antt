@@ -82,3 +82,13 @@ pub record HasArrays (table : Table) (text : List ℕ) : Type 0 where
   pub before : List ℕ
   pub after : List ℕ
   pub parts : text ≡ before ++ (arrays_text (codes "yy_") table ++ after)
+
+-- the classes of bytes and the rows of states of a table that finds the ends of tokens
+unfoldable pub cut_arrays_text : Table → List ℕ
+cut_arrays_text table = class_array (codes "yy_cut_") table.machine ++ row_array (codes "yy_cut_") table
+
+-- The text has these arrays of the table.
+pub record HasCutArrays (table : Table) (text : List ℕ) : Type 0 where
+  pub before : List ℕ
+  pub after : List ℕ
+  pub parts : text ≡ before ++ (cut_arrays_text table ++ after)

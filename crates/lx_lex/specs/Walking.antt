@@ -1,9 +1,12 @@
 -- The arrays as C reads them, and the rule that a walk over them finds.
-use Rattle.std.specs.Prelude.{◌≡◌, ℕ, zero, suc, ◌+◌, ◌*◌, ◌==◌, ◌<◌, if◌then◌else◌, Bool, true, false, Option, Some, None, List, [], ◌∷◌, length, slice_index, All}
-use Rattle.lx_automaton.specs.Automata.{Machine, state_count}
+use Rattle.std.specs.Prelude.{◌≡◌, ◌↔◌, ℕ, zero, suc, ◌+◌, ◌*◌, ◌==◌, ◌<◌, if◌then◌else◌, IsTrue, Bool, true, false, Option, Some, None, is_some, List, [], ◌∷◌, length, slice_get, slice_index, All}
+use Rattle.lx_automaton.specs.Automata.{Machine, start_of, state_count}
 use Rattle.lx_automaton.specs.Meaning.{IsAnswer}
 use Rattle.lx_c.specs.Reading.{read_words}
+use Rattle.lx_ere.specs.Matching.{Matches, no_names}
 use Rattle.lx_lex.specs.Arrays.{class_entries, end_class, row_of, rows_text, start_lines}
+use Rattle.lx_lex.specs.Cuts.{Part, parts_of}
+use Rattle.lx_lex.specs.Translation.{FileRule}
 use Rattle.lx_rules.specs.Plain.{PlainSpec}
 use Rattle.lx_tables.specs.Model.{Table}
 
@@ -54,3 +57,15 @@ pub record FindRules (spec : PlainSpec) (table : Table) : Type 0 where
       IsAnswer spec condition begin text (walked_rule (numbers_of table.machine) condition begin text)
   pub sentinel : slice_index (numbers_of table.machine).classes 0 ≡ end_class table.machine
   pub nowhere : (s : ℕ) → s < state_count table.machine → slice_index (numbers_of table.machine).rows (row_of table.machine s + end_class table.machine) ≡ 0
+
+-- the rule after a text, from the row at a place
+abbrev pub rule_from : Numbers → ℕ → List ℕ → Option ℕ
+rule_from a place text = numbered_rule (slice_index a.rows (walk a place text + a.rule_column))
+
+-- From the row in which the condition of a part starts, the walk over a text that isn't empty finds a rule exactly where the part matches the text.
+abbrev pub FindsPart : Table → ℕ → Part → List ℕ → Type 0
+FindsPart table i part text = IsTrue (is_some (rule_from (numbers_of table.machine) (row_of table.machine (start_of table.machine (i + 1) false)) text)) ↔ Matches no_names part.tree text
+
+-- It does so for each part of the rules with trailing context of several lengths.
+abbrev pub FindParts : List FileRule → Table → Type 0
+FindParts rules table = (i : ℕ) (part : Part) (text : List ℕ) → slice_get (parts_of rules) i ≡ Some part → 0 < length text → All (λ b. b < 256) text → FindsPart table i part text

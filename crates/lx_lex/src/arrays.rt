@@ -1,7 +1,7 @@
 //! The automaton as arrays, in which byte 0 leads nowhere.
 
 ghost use Rattle.std.specs.List.{flat_map, range_with_len};
-ghost use Rattle.std.specs.Prelude.{codes, length, IfOk, OnOk, ◌++◌, ◌<◌, ◌≡◌};
+ghost use Rattle.std.specs.Prelude.{codes, false, length, IfOk, OnOk, ◌++◌, ◌<◌, ◌≡◌};
 ghost use Rattle.lx_automaton.specs.Automata.{class_target, start_of, state_count};
 ghost use Rattle.lx_lex.specs.Arrays as arrays;
 
@@ -177,20 +177,21 @@ pub(crate) fn arrays_of(
     Ok(text)
 }
 
-/// Returns the classes and the rows of tables, without the starts of conditions.
-pub(crate) fn classes_and_rows_of(
-    alloc: Global,
-    tables: &Tables,
-    prefix: &[u8],
-) -> Result<Vec<u8>, AllocError> {
+/// Returns the arrays that find the ends of tokens: classes and rows, without the starts of conditions.
+pub(crate) fn cut_arrays_of(alloc: Global, tables: &Tables) -> Result<Vec<u8>, AllocError>
+    ensures { IfOk result (λ text. text.items ≡ arrays.cut_arrays_text tables.now) }
+{
     let mut text = Vec::new(alloc);
-    push_class_array(&mut text, tables, prefix)?;
-    push_row_array(&mut text, tables, prefix)?;
+    push_class_array(&mut text, tables, b"yy_cut_")?;
+    push_row_array(&mut text, tables, b"yy_cut_")?;
     Ok(text)
 }
 
 /// Returns the place where the row begins in which a condition starts. Returns 0 for a condition that the tables don't have.
-pub(crate) fn start_row(tables: &Tables, condition: u16) -> u64 {
+pub(crate) fn start_row(tables: &Tables, condition: u16) -> u64
+    ensures { condition < length tables.now.machine.starts
+        → result ≡ arrays.row_of tables.now.machine (start_of tables.now.machine condition false) }
+{
     if condition < tables.conditions() {
         row_of(tables, tables.start(condition, false))
     } else {

@@ -1,6 +1,11 @@
-//! A law of the printed arrays, as C reads them.
+//! Laws of the printed arrays, as C reads them, and of the parts of matches.
 
-ghost use Rattle.lx_lex.specs.Walking.{FindRules};
+ghost use Rattle.std.specs.Prelude.{◌≡◌, ◌↔◌, List, Option, ℕ, reverse};
+ghost use Rattle.lx_ere.specs.Matching.{Matches, no_names};
+ghost use Rattle.lx_ere.specs.Regex.{Regex};
+ghost use Rattle.lx_lex.specs.Cuts.{IsCutSpec, reversed};
+ghost use Rattle.lx_lex.specs.Translation.{FileRule};
+ghost use Rattle.lx_lex.specs.Walking.{FindParts, FindRules};
 ghost use Rattle.lx_rules.specs.Plain.{PlainSpec};
 ghost use Rattle.lx_tables.specs.Model.{AreTablesOf, IsTable, Table};
 
@@ -8,4 +13,17 @@ ghost use Rattle.lx_tables.specs.Model.{AreTablesOf, IsTable, Table};
 pub fn arrays_find_rules()
     ensures { (spec : PlainSpec) (table : Table) → IsTable table → AreTablesOf spec table
         → FindRules spec table }
+{}
+
+/// States a law: the walk over the arrays for the ends of tokens tells, for each text that isn't empty, whether the token of a rule matches it, and
+/// whether its trailing context, from its last byte to its first, does.
+pub fn arrays_find_parts()
+    ensures { (rules : List FileRule) (spec : PlainSpec) (table : Table) → IsTable table
+        → IsCutSpec rules spec → AreTablesOf spec table → FindParts rules table }
+{}
+
+/// States a law: the reversed expression matches a text from its last byte to its first exactly if the expression matches the text.
+pub fn reversal_matches()
+    ensures { (tree : Regex) (text : List ℕ) → Matches no_names (reversed tree) (reverse text)
+        ↔ Matches no_names tree text }
 {}

@@ -1,9 +1,10 @@
 //! The rules of a file, as far as they are printed.
 
-ghost use Rattle.std.specs.Prelude.{Some};
+ghost use Rattle.std.specs.Prelude.{◌≡◌, false, Some};
 ghost use Rattle.lx_ere.specs.Regex.{regex_of};
+ghost use Rattle.lx_flex.specs.Lengths.{HasNoNewline};
 ghost use Rattle.lx_flex_pattern.specs.ReadingOf.{reading_of};
-ghost use Rattle.lx_lex.specs.Cuts.{IsCut, context_of};
+ghost use Rattle.lx_lex.specs.Cuts.{IsCut, context_of, cut_of, is_varying};
 
 use lx_ere::Expr;
 use lx_flex::definitions::Declared;
@@ -29,7 +30,9 @@ pub enum MatchCut {
 }
 
 /// Returns true if both parts of a match have texts of several lengths.
-pub(crate) fn is_varying(cut: MatchCut) -> bool {
+pub(crate) fn is_varying(cut: MatchCut) -> bool
+    ensures { result ≡ is_varying cut }
+{
     matches!(
         cut,
         MatchCut::Varying {
@@ -72,8 +75,9 @@ pub struct FileOutline<'a> {
 }
 
 /// Returns the cut of a match of two parts.
-fn cut_between(token: &Expr, context: &Expr) -> MatchCut
-    ensures { IsCut (regex_of token.now) (Some (regex_of context.now)) result }
+pub(crate) fn cut_between(token: &Expr, context: &Expr) -> MatchCut
+    ensures form { result ≡ cut_of (regex_of token.now) (Some (regex_of context.now)) }
+    ensures meaning { IsCut (regex_of token.now) (Some (regex_of context.now)) result }
 {
     match fixed_length(context) {
         Some(length) => MatchCut::Before(length),
@@ -89,7 +93,11 @@ fn cut_between(token: &Expr, context: &Expr) -> MatchCut
 
 /// Returns the outline of a pattern.
 pub fn outline_of(reading: &PatternReading) -> PatternOutline
-    ensures { IsCut (reading_of reading.now).tree (context_of (reading_of reading.now)) result.cut }
+    ensures form { result.cut
+        ≡ cut_of (reading_of reading.now).tree (context_of (reading_of reading.now)) }
+    ensures meaning { IsCut (reading_of reading.now).tree (context_of (reading_of reading.now)) result.cut }
+    ensures newline { result.has_newline ≡ false → HasNoNewline (reading_of reading.now).tree }
+    ensures begin { result.line_begin ≡ (reading_of reading.now).line_begin }
 {
     let expr = &reading.pattern.expr;
     let line_begin = reading.pattern.line_begin;
@@ -195,18 +203,6 @@ impl FileOutline<'_> {
         for rule in self.rules.as_slice() {
             if let Some(pattern) = rule.pattern {
                 if pattern.line_begin {
-                    return true;
-                }
-            }
-        }
-        false
-    }
-
-    /// Returns true if a rule has trailing context, and both parts have texts of several lengths.
-    pub fn has_varying_cut(&self) -> bool {
-        for rule in self.rules.as_slice() {
-            if let Some(pattern) = rule.pattern {
-                if is_varying(pattern.cut) {
                     return true;
                 }
             }

@@ -1,10 +1,11 @@
 //! A scanner in C and its header, as texts.
 
-ghost use Rattle.std.specs.Prelude.{IfOk, ◌++◌, ◌≡◌};
-ghost use Rattle.lx_lex.specs.Arrays.{HasArrays};
+ghost use Rattle.std.specs.Prelude.{IfOk, IfSome, ◌++◌, ◌≡◌};
+ghost use Rattle.lx_lex.specs.Arrays as arrays;
+ghost use Rattle.lx_lex.specs.Arrays.{HasArrays, HasCutArrays};
 
 use crate::actions::{CodePlaces, push_actions};
-use crate::arrays::{arrays_of, classes_and_rows_of, lines_in, start_row};
+use crate::arrays::{arrays_of, cut_arrays_of, lines_in, start_row};
 use crate::outline::{FileOutline, MatchCut};
 use crate::skeleton_calls::{
     ACCESS, ACCESS_LINES, CREATE, DELETE, DESTROY, FATAL, MAIN, MEMORY, POSITION, SCAN, SCAN_BYTES,
@@ -179,13 +180,11 @@ fn push_rule_arrays(
     output.push(b"\n")
 }
 
-/// Appends the arrays that find the end of a token with trailing context of several lengths.
-fn push_cut_tables(alloc: Global, output: &mut Output, tables: &Tables) -> Result<(), AllocError> {
+/// Appends the numbers that the arrays for the ends of tokens are read by.
+fn push_cut_macros(output: &mut Output, tables: &Tables) -> Result<(), AllocError> {
     output.push(b"\n")?;
     push_define(output, b"YY_CUT_NUL_CLASS", u64::from(tables.class(0)))?;
-    push_define(output, b"YY_CUT_RULE_COLUMN", u64::from(tables.classes()))?;
-    let arrays = classes_and_rows_of(alloc, tables, b"yy_cut_")?;
-    output.push(arrays.as_slice())
+    push_define(output, b"YY_CUT_RULE_COLUMN", u64::from(tables.classes()))
 }
 
 /// Appends the case that cuts the match of a rule.
@@ -289,17 +288,10 @@ fn push_head(
 
 /// Appends the user's declarations, and the start conditions.
 fn push_declarations(
-    alloc: Global,
     output: &mut Output,
-    environment: &Environment,
     outline: &FileOutline,
-    cut_tables: Option<&Tables>,
     places: CodePlaces,
 ) -> Result<(), AllocError> {
-    push_rule_arrays(output, environment, outline)?;
-    if let Some(tables) = cut_tables {
-        push_cut_tables(alloc, output, tables)?;
-    }
     push_extra_type(output, outline)?;
     places.push_all_code(output, outline.declared.code.as_slice())?;
     output.push(b"\n")?;
@@ -392,7 +384,22 @@ fn places_of<'a>(
     }
 }
 
-/// Returns the part of a scanner after the arrays of its automaton, which begins after a number of lines.
+/// Returns the part of a scanner between its arrays and those for the ends of tokens.
+fn middle_of(
+    alloc: Global,
+    environment: &Environment,
+    outline: &FileOutline,
+    cut_tables: Option<&Tables>,
+) -> Result<Output, AllocError> {
+    let mut output = Output::after(alloc, 0);
+    push_rule_arrays(&mut output, environment, outline)?;
+    if let Some(tables) = cut_tables {
+        push_cut_macros(&mut output, tables)?;
+    }
+    Ok(output)
+}
+
+/// Returns the part of a scanner after its arrays, which begins after a number of lines.
 fn rest_of(
     alloc: Global,
     environment: &Environment,
@@ -402,7 +409,7 @@ fn rest_of(
     lines: u32,
 ) -> Result<Output, AllocError> {
     let mut output = Output::after(alloc, lines);
-    push_declarations(alloc, &mut output, environment, outline, cut_tables, places)?;
+    push_declarations(&mut output, outline, places)?;
     push_yylex(alloc, &mut output, environment, outline, cut_tables, places)?;
     push_calls(alloc, &mut output, environment)?;
     if !outline.functions.of(outline.text).is_empty() {
@@ -411,20 +418,42 @@ fn rest_of(
     Ok(output)
 }
 
-/// Joins the parts of a scanner.
-fn joined(head: Output, arrays: &[u8], rest: &Output) -> Result<Vec<u8>, AllocError>
+/// Returns the arrays that find the ends of tokens, or the empty text if none is wanted.
+fn cut_arrays_or_none(alloc: Global, tables: Option<&Tables>) -> Result<Vec<u8>, AllocError>
     ensures { IfOk result (λ text.
-        text.items ≡ head.text.items ++ (arrays.now ++ rest.now.text.items)) }
+        IfSome tables.entry (λ t. text.items ≡ arrays.cut_arrays_text t.now)) }
+{
+    match tables {
+        Some(tables) => cut_arrays_of(alloc, tables),
+        None => Ok(Vec::new(alloc)),
+    }
+}
+
+/// Joins the parts of a scanner: the arrays of its automaton, and those for the ends of tokens, each between two others.
+fn joined(
+    head: Output,
+    arrays: &[u8],
+    middle: &Output,
+    cut_arrays: &[u8],
+    rest: &Output,
+) -> Result<Vec<u8>, AllocError>
+    ensures arrays { IfOk result (λ text. text.items ≡ head.text.items
+        ++ (arrays.now ++ (middle.now.text.items ++ cut_arrays.now ++ rest.now.text.items))) }
+    ensures cut { IfOk result (λ text. text.items
+        ≡ head.text.items ++ arrays.now ++ middle.now.text.items
+        ++ (cut_arrays.now ++ rest.now.text.items)) }
 {
     let Output { text, .. } = head;
     let mut text = text;
     text.extend_from_slice(arrays)?;
+    text.extend_from_slice(middle.text.as_slice())?;
+    text.extend_from_slice(cut_arrays)?;
     text.extend_from_slice(rest.text.as_slice())?;
     Ok(text)
 }
 
-/// Returns a scanner in C of a file and the tables of its rules. Its arrays are those of the automaton. `cut_tables` finds the ends of tokens with
-/// trailing context of several lengths.
+/// Returns a scanner in C of a file and the tables of its rules. It has the arrays of the automaton, and those of `cut_tables`, which find the ends of
+/// tokens with trailing context of several lengths.
 pub fn scanner_of<'a>(
     alloc: Global,
     outline: &FileOutline<'a>,
@@ -432,7 +461,9 @@ pub fn scanner_of<'a>(
     cut_tables: Option<&Tables>,
     options: PrintOptions<'a>,
 ) -> Result<Vec<u8>, AllocError>
-    ensures { IfOk result (λ text. HasArrays tables.now text.items) }
+    ensures arrays { IfOk result (λ text. HasArrays tables.now text.items) }
+    ensures cut { IfOk result (λ text.
+        IfSome cut_tables.entry (λ t. HasCutArrays t.now text.items)) }
 {
     let environment = environment_of(alloc, outline, false)?;
     let places = places_of(outline, &environment, options);
@@ -447,12 +478,22 @@ pub fn scanner_of<'a>(
         places,
     )?;
     let arrays = arrays_of(alloc, tables, b"yy_")?;
+    let middle = middle_of(alloc, &environment, outline, cut_tables)?;
+    let cut_arrays = cut_arrays_or_none(alloc, cut_tables)?;
     let lines = head
         .line()
         .saturating_sub(1)
-        .saturating_add(lines_in(arrays.as_slice()));
+        .saturating_add(lines_in(arrays.as_slice()))
+        .saturating_add(lines_in(middle.text.as_slice()))
+        .saturating_add(lines_in(cut_arrays.as_slice()));
     let rest = rest_of(alloc, &environment, outline, cut_tables, places, lines)?;
-    joined(head, arrays.as_slice(), &rest)
+    joined(
+        head,
+        arrays.as_slice(),
+        &middle,
+        cut_arrays.as_slice(),
+        &rest,
+    )
 }
 
 /// Returns the header of a scanner.

@@ -7,12 +7,12 @@ static void yy_load_position(@p)
 %if reentrant
     struct yyguts_t *yyg = (struct yyguts_t *)yyscanner;
 %end
-    YY_BUFFER_STATE b = YY_CURRENT_BUFFER_LVALUE;
+    YY_BUFFER_STATE yy_buffer = YY_CURRENT_BUFFER_LVALUE;
 
-    @gyy_n_chars = b->yy_n_chars;
-    @gyytext_ptr = @gyy_c_buf_p = b->yy_buf_pos;
+    @gyy_n_chars = yy_buffer->yy_n_chars;
+    @gyytext_ptr = @gyy_c_buf_p = yy_buffer->yy_buf_pos;
     @gyy_hold_char = *@gyy_c_buf_p;
-    yyin = b->yy_input_file;
+    yyin = yy_buffer->yy_input_file;
 }
 
 /* Stores the place in the current buffer, if there is one. */
@@ -35,20 +35,20 @@ static void yy_make_stack_room(@p)
 %if reentrant
     struct yyguts_t *yyg = (struct yyguts_t *)yyscanner;
 %end
-    size_t size = @gyy_buffer_stack_max + 8;
-    YY_BUFFER_STATE *grown;
+    size_t yy_size = @gyy_buffer_stack_max + 8;
+    YY_BUFFER_STATE *yy_grown;
 
     if (@gyy_buffer_stack_top + 1 < @gyy_buffer_stack_max)
         return;
     if (@gyy_buffer_stack)
-        grown = (YY_BUFFER_STATE *)yyrealloc(@gyy_buffer_stack, size * sizeof *grown@A);
+        yy_grown = (YY_BUFFER_STATE *)yyrealloc(@gyy_buffer_stack, yy_size * sizeof *yy_grown@A);
     else
-        grown = (YY_BUFFER_STATE *)yyalloc(size * sizeof *grown@A);
-    if (!grown)
+        yy_grown = (YY_BUFFER_STATE *)yyalloc(yy_size * sizeof *yy_grown@A);
+    if (!yy_grown)
         YY_FATAL_ERROR("out of dynamic memory in yyensure_buffer_stack()");
-    @gyy_buffer_stack = grown;
-    while (@gyy_buffer_stack_max < size)
-        grown[@gyy_buffer_stack_max++] = NULL;
+    @gyy_buffer_stack = yy_grown;
+    while (@gyy_buffer_stack_max < yy_size)
+        yy_grown[@gyy_buffer_stack_max++] = NULL;
 }
 
 /* Makes a buffer for yyin if there is none. */
@@ -68,57 +68,57 @@ static void yy_need_buffer(@p)
 "#;
 
 pub(crate) const CREATE: &[u8] = br#"/* Empties a buffer and connects it with a file. */
-static void yy_attach_file(YY_BUFFER_STATE b, FILE *file@P)
+static void yy_attach_file(YY_BUFFER_STATE yy_buffer, FILE *yy_file@P)
 {
 %if reentrant
     struct yyguts_t *yyg = (struct yyguts_t *)yyscanner;
 %end
-    int known_errno = errno;
+    int yy_known_errno = errno;
 
-    b->yy_input_file = file;
-    b->yy_fill_buffer = 1;
-    yy_flush_buffer(b@A);
-    if (b != YY_CURRENT_BUFFER) { /* A file that follows another one in its buffer goes on counting. */
-        b->yy_bs_lineno = 1;
-        b->yy_bs_column = 0;
+    yy_buffer->yy_input_file = yy_file;
+    yy_buffer->yy_fill_buffer = 1;
+    yy_flush_buffer(yy_buffer@A);
+    if (yy_buffer != YY_CURRENT_BUFFER) { /* A file that follows another one in its buffer goes on counting. */
+        yy_buffer->yy_bs_lineno = 1;
+        yy_buffer->yy_bs_column = 0;
     }
 %if always-interactive
-    b->yy_is_interactive = 1;
+    yy_buffer->yy_is_interactive = 1;
 %else
 %if never-interactive
-    b->yy_is_interactive = 0;
+    yy_buffer->yy_is_interactive = 0;
 %else
-    b->yy_is_interactive = file && isatty(fileno(file)) > 0;
+    yy_buffer->yy_is_interactive = yy_file && isatty(fileno(yy_file)) > 0;
 %end
 %end
-    errno = known_errno;
+    errno = yy_known_errno;
 }
 
 /* Returns a new buffer for yy_switch_to_buffer or yypush_buffer_state. */
-YY_BUFFER_STATE yy_create_buffer(FILE *file, int size@P)
+YY_BUFFER_STATE yy_create_buffer(FILE *yy_file, int yy_size@P)
 {
-    YY_BUFFER_STATE b = (YY_BUFFER_STATE)yyalloc(sizeof *b@A);
+    YY_BUFFER_STATE yy_buffer = (YY_BUFFER_STATE)yyalloc(sizeof *yy_buffer@A);
 
-    if (!b)
+    if (!yy_buffer)
         YY_FATAL_ERROR("out of dynamic memory in yy_create_buffer()");
-    b->yy_buf_size = size;
-    b->yy_is_our_buffer = 1;
-    b->yy_ch_buf = (char *)yyalloc((yy_size_t)size + 2@A);
-    if (!b->yy_ch_buf)
+    yy_buffer->yy_buf_size = yy_size;
+    yy_buffer->yy_is_our_buffer = 1;
+    yy_buffer->yy_ch_buf = (char *)yyalloc((yy_size_t)yy_size + 2@A);
+    if (!yy_buffer->yy_ch_buf)
         YY_FATAL_ERROR("out of dynamic memory in yy_create_buffer()");
-    yy_attach_file(b, file@A);
-    return b;
+    yy_attach_file(yy_buffer, yy_file@A);
+    return yy_buffer;
 }
 
 /* Empties the current buffer and connects it with another file. The start condition stays. */
-void yyrestart(FILE *input_file@P)
+void yyrestart(FILE *yy_file@P)
 {
 %if reentrant
     struct yyguts_t *yyg = (struct yyguts_t *)yyscanner;
 %end
 
     yy_need_buffer(@a);
-    yy_attach_file(YY_CURRENT_BUFFER_LVALUE, input_file@A);
+    yy_attach_file(YY_CURRENT_BUFFER_LVALUE, yy_file@A);
     yy_load_position(@a);
 }
 
@@ -126,36 +126,36 @@ void yyrestart(FILE *input_file@P)
 
 pub(crate) const SWITCH: &[u8] =
     br#"/* Makes another buffer the current one. The buffer before keeps its place. */
-void yy_switch_to_buffer(YY_BUFFER_STATE new_buffer@P)
+void yy_switch_to_buffer(YY_BUFFER_STATE yy_new_buffer@P)
 {
 %if reentrant
     struct yyguts_t *yyg = (struct yyguts_t *)yyscanner;
 %end
 
-    if (YY_CURRENT_BUFFER == new_buffer)
+    if (YY_CURRENT_BUFFER == yy_new_buffer)
         return;
     yy_save_position(@a);
     yy_make_stack_room(@a);
-    YY_CURRENT_BUFFER_LVALUE = new_buffer;
-    if (new_buffer)
+    YY_CURRENT_BUFFER_LVALUE = yy_new_buffer;
+    if (yy_new_buffer)
         yy_load_position(@a);
     @gyy_did_buffer_switch_on_eof = 1;
 }
 
 /* Makes another buffer the current one until it is popped. */
-void yypush_buffer_state(YY_BUFFER_STATE new_buffer@P)
+void yypush_buffer_state(YY_BUFFER_STATE yy_new_buffer@P)
 {
 %if reentrant
     struct yyguts_t *yyg = (struct yyguts_t *)yyscanner;
 %end
 
-    if (!new_buffer)
+    if (!yy_new_buffer)
         return;
     yy_save_position(@a);
     yy_make_stack_room(@a);
     if (YY_CURRENT_BUFFER_LVALUE)
         ++@gyy_buffer_stack_top;
-    YY_CURRENT_BUFFER_LVALUE = new_buffer;
+    YY_CURRENT_BUFFER_LVALUE = yy_new_buffer;
     yy_load_position(@a);
     @gyy_did_buffer_switch_on_eof = 1;
 }
@@ -181,103 +181,103 @@ void yypop_buffer_state(@p)
 "#;
 
 pub(crate) const DELETE: &[u8] = br#"/* Frees a buffer. */
-void yy_delete_buffer(YY_BUFFER_STATE b@P)
+void yy_delete_buffer(YY_BUFFER_STATE yy_buffer@P)
 {
 %if reentrant
     struct yyguts_t *yyg = (struct yyguts_t *)yyscanner;
 %end
 
-    if (!b)
+    if (!yy_buffer)
         return;
-    if (b == YY_CURRENT_BUFFER)
+    if (yy_buffer == YY_CURRENT_BUFFER)
         YY_CURRENT_BUFFER_LVALUE = NULL;
-    if (b->yy_is_our_buffer)
-        yyfree(b->yy_ch_buf@A);
-    yyfree(b@A);
+    if (yy_buffer->yy_is_our_buffer)
+        yyfree(yy_buffer->yy_ch_buf@A);
+    yyfree(yy_buffer@A);
 }
 
 /* Drops the text of a buffer, so that the next match reads its file. */
-void yy_flush_buffer(YY_BUFFER_STATE b@P)
+void yy_flush_buffer(YY_BUFFER_STATE yy_buffer@P)
 {
 %if reentrant
     struct yyguts_t *yyg = (struct yyguts_t *)yyscanner;
 %end
 
-    if (!b)
+    if (!yy_buffer)
         return;
-    b->yy_n_chars = 0;
-    b->yy_ch_buf[0] = b->yy_ch_buf[1] = YY_END_OF_BUFFER_CHAR;
-    b->yy_buf_pos = b->yy_ch_buf;
-    b->yy_at_bol = 1;
-    b->yy_buffer_status = YY_BUFFER_NEW;
-    if (b == YY_CURRENT_BUFFER)
+    yy_buffer->yy_n_chars = 0;
+    yy_buffer->yy_ch_buf[0] = yy_buffer->yy_ch_buf[1] = YY_END_OF_BUFFER_CHAR;
+    yy_buffer->yy_buf_pos = yy_buffer->yy_ch_buf;
+    yy_buffer->yy_at_bol = 1;
+    yy_buffer->yy_buffer_status = YY_BUFFER_NEW;
+    if (yy_buffer == YY_CURRENT_BUFFER)
         yy_load_position(@a);
 }
 
 "#;
 
 pub(crate) const SCAN: &[u8] = br#"%if yy_scan_buffer
-/* Makes a buffer of size bytes that stay where they are. Returns NULL if the last two aren't NUL. */
-YY_BUFFER_STATE yy_scan_buffer(char *base, yy_size_t size@P)
+/* Makes a buffer of yy_size bytes that stay where they are. Returns NULL if the last two aren't NUL. */
+YY_BUFFER_STATE yy_scan_buffer(char *yy_base, yy_size_t yy_size@P)
 %else
-/* Makes a buffer of size bytes that stay where they are. Returns NULL if the last two aren't NUL. */
-static YY_BUFFER_STATE yy_scan_in_place(char *base, yy_size_t size@P)
+/* Makes a buffer of yy_size bytes that stay where they are. Returns NULL if the last two aren't NUL. */
+static YY_BUFFER_STATE yy_scan_in_place(char *yy_base, yy_size_t yy_size@P)
 %end
 {
-    YY_BUFFER_STATE b;
+    YY_BUFFER_STATE yy_buffer;
 
-    if (size < 2 || base[size - 2] != YY_END_OF_BUFFER_CHAR || base[size - 1] != YY_END_OF_BUFFER_CHAR)
+    if (yy_size < 2 || yy_base[yy_size - 2] != YY_END_OF_BUFFER_CHAR || yy_base[yy_size - 1] != YY_END_OF_BUFFER_CHAR)
         return NULL;
-    b = (YY_BUFFER_STATE)yyalloc(sizeof *b@A);
-    if (!b)
+    yy_buffer = (YY_BUFFER_STATE)yyalloc(sizeof *yy_buffer@A);
+    if (!yy_buffer)
         YY_FATAL_ERROR("out of dynamic memory in yy_scan_buffer()");
-    memset(b, 0, sizeof *b);
-    b->yy_ch_buf = b->yy_buf_pos = base;
-    b->yy_buf_size = b->yy_n_chars = (int)(size - 2);
-    b->yy_at_bol = 1;
-    b->yy_bs_lineno = 1;
-    b->yy_buffer_status = YY_BUFFER_NEW;
-    yy_switch_to_buffer(b@A);
-    return b;
+    memset(yy_buffer, 0, sizeof *yy_buffer);
+    yy_buffer->yy_ch_buf = yy_buffer->yy_buf_pos = yy_base;
+    yy_buffer->yy_buf_size = yy_buffer->yy_n_chars = (int)(yy_size - 2);
+    yy_buffer->yy_at_bol = 1;
+    yy_buffer->yy_bs_lineno = 1;
+    yy_buffer->yy_buffer_status = YY_BUFFER_NEW;
+    yy_switch_to_buffer(yy_buffer@A);
+    return yy_buffer;
 }
 
 "#;
 
 pub(crate) const SCAN_BYTES: &[u8] = br#"/* Makes a buffer with a copy of some bytes. */
 %if yy_scan_bytes
-YY_BUFFER_STATE yy_scan_bytes(const char *bytes, int length@P)
+YY_BUFFER_STATE yy_scan_bytes(const char *yy_bytes, int yy_length@P)
 %else
-static YY_BUFFER_STATE yy_scan_copy(const char *bytes, int length@P)
+static YY_BUFFER_STATE yy_scan_copy(const char *yy_bytes, int yy_length@P)
 %end
 {
-    char *copy = (char *)yyalloc((yy_size_t)length + 2@A);
-    YY_BUFFER_STATE b;
+    char *yy_copy = (char *)yyalloc((yy_size_t)yy_length + 2@A);
+    YY_BUFFER_STATE yy_buffer;
 
-    if (!copy)
+    if (!yy_copy)
         YY_FATAL_ERROR("out of dynamic memory in yy_scan_bytes()");
-    if (length > 0)
-        memcpy(copy, bytes, (size_t)length);
-    copy[length] = copy[length + 1] = YY_END_OF_BUFFER_CHAR;
+    if (yy_length > 0)
+        memcpy(yy_copy, yy_bytes, (size_t)yy_length);
+    yy_copy[yy_length] = yy_copy[yy_length + 1] = YY_END_OF_BUFFER_CHAR;
 %if yy_scan_buffer
-    b = yy_scan_buffer(copy, (yy_size_t)length + 2@A);
+    yy_buffer = yy_scan_buffer(yy_copy, (yy_size_t)yy_length + 2@A);
 %else
-    b = yy_scan_in_place(copy, (yy_size_t)length + 2@A);
+    yy_buffer = yy_scan_in_place(yy_copy, (yy_size_t)yy_length + 2@A);
 %end
-    if (!b)
+    if (!yy_buffer)
         YY_FATAL_ERROR("bad buffer in yy_scan_bytes()");
-    b->yy_is_our_buffer = 1;
-    return b;
+    yy_buffer->yy_is_our_buffer = 1;
+    return yy_buffer;
 }
 
 "#;
 
 pub(crate) const SCAN_STRING: &[u8] = br#"/* Makes a buffer with a copy of a string. */
-YY_BUFFER_STATE yy_scan_string(const char *text@P)
+YY_BUFFER_STATE yy_scan_string(const char *yy_text@P)
 {
 %if yy_scan_bytes
-    return yy_scan_bytes(text, (int)strlen(text)@A);
+    return yy_scan_bytes(yy_text, (int)strlen(yy_text)@A);
 %else
-    return yy_scan_copy(text, (int)strlen(text)@A);
+    return yy_scan_copy(yy_text, (int)strlen(yy_text)@A);
 %end
 }
 
@@ -285,24 +285,24 @@ YY_BUFFER_STATE yy_scan_string(const char *text@P)
 
 pub(crate) const STATES: &[u8] = br#"%if yy_push_state
 /* Enters a start condition, from which yy_pop_state leads back. */
-static void yy_push_state(int new_state@P)
+static void yy_push_state(int yy_new_state@P)
 {
 %if reentrant
     struct yyguts_t *yyg = (struct yyguts_t *)yyscanner;
 %end
 
     if (@gyy_start_stack_ptr >= @gyy_start_stack_depth) {
-        int depth = @gyy_start_stack_depth + YY_START_STACK_INCR;
-        yy_size_t size = (yy_size_t)depth * sizeof(int);
-        int *grown = (int *)(@gyy_start_stack ? yyrealloc(@gyy_start_stack, size@A) : yyalloc(size@A));
+        int yy_depth = @gyy_start_stack_depth + YY_START_STACK_INCR;
+        yy_size_t yy_size = (yy_size_t)yy_depth * sizeof(int);
+        int *yy_grown = (int *)(@gyy_start_stack ? yyrealloc(@gyy_start_stack, yy_size@A) : yyalloc(yy_size@A));
 
-        if (!grown)
+        if (!yy_grown)
             YY_FATAL_ERROR("out of memory expanding start-condition stack");
-        @gyy_start_stack = grown;
-        @gyy_start_stack_depth = depth;
+        @gyy_start_stack = yy_grown;
+        @gyy_start_stack_depth = yy_depth;
     }
     @gyy_start_stack[@gyy_start_stack_ptr++] = YY_START;
-    BEGIN(new_state);
+    BEGIN(yy_new_state);
 }
 
 %end
@@ -336,12 +336,12 @@ static int yy_top_state(@p)
 "#;
 
 pub(crate) const FATAL: &[u8] = br#"/* Prints a message and ends the program. */
-static void yy_fatal_error(const char *message@P)
+static void yy_fatal_error(const char *yy_message@P)
 {
 %if reentrant
     (void)yyscanner;
 %end
-    fprintf(stderr, "%s\n", message);
+    fprintf(stderr, "%s\n", yy_message);
     exit(YY_EXIT_FAILURE);
 }
 
@@ -358,12 +358,12 @@ int yyget_debug(@p)
 
 %end
 %if yyset_debug
-void yyset_debug(int debug_flag@P)
+void yyset_debug(int yy_debug_flag@P)
 {
 %if reentrant
     struct yyguts_t *yyg = (struct yyguts_t *)yyscanner;
 %end
-    yy_flex_debug = debug_flag;
+    yy_flex_debug = yy_debug_flag;
 }
 
 %end
@@ -379,12 +379,12 @@ FILE *yyget_in(@p)
 %end
 %if yyset_in
 /* Sets the file to be read next. Text that is in the buffer is scanned first. */
-void yyset_in(FILE *in@P)
+void yyset_in(FILE *yy_in@P)
 {
 %if reentrant
     struct yyguts_t *yyg = (struct yyguts_t *)yyscanner;
 %end
-    yyin = in;
+    yyin = yy_in;
 }
 
 %end
@@ -399,12 +399,12 @@ FILE *yyget_out(@p)
 
 %end
 %if yyset_out
-void yyset_out(FILE *out@P)
+void yyset_out(FILE *yy_out@P)
 {
 %if reentrant
     struct yyguts_t *yyg = (struct yyguts_t *)yyscanner;
 %end
-    yyout = out;
+    yyout = yy_out;
 }
 
 %end
@@ -443,14 +443,14 @@ int yyget_lineno(@p)
 
 %end
 %if yyset_lineno
-void yyset_lineno(int line_number@P)
+void yyset_lineno(int yy_line_number@P)
 {
 %if reentrant
     struct yyguts_t *yyg = (struct yyguts_t *)yyscanner;
     if (!YY_CURRENT_BUFFER)
         YY_FATAL_ERROR("yyset_lineno called with no buffer");
 %end
-    yylineno = line_number;
+    yylineno = yy_line_number;
 }
 
 %end
@@ -464,12 +464,12 @@ int yyget_column(@p)
 
 %end
 %if yyset_column
-void yyset_column(int column@P)
+void yyset_column(int yy_column@P)
 {
     struct yyguts_t *yyg = (struct yyguts_t *)yyscanner;
     if (!YY_CURRENT_BUFFER)
         YY_FATAL_ERROR("yyset_column called with no buffer");
-    yycolumn = column;
+    yycolumn = yy_column;
 }
 
 %end
@@ -482,10 +482,10 @@ YY_EXTRA_TYPE yyget_extra(@p)
 
 %end
 %if yyset_extra
-void yyset_extra(YY_EXTRA_TYPE extra@P)
+void yyset_extra(YY_EXTRA_TYPE yy_extra@P)
 {
     struct yyguts_t *yyg = (struct yyguts_t *)yyscanner;
-    yyextra = extra;
+    yyextra = yy_extra;
 }
 
 %end
@@ -499,10 +499,10 @@ YYSTYPE *yyget_lval(@p)
 
 %end
 %if yyset_lval
-void yyset_lval(YYSTYPE *value@P)
+void yyset_lval(YYSTYPE *yy_value@P)
 {
     struct yyguts_t *yyg = (struct yyguts_t *)yyscanner;
-    yylval = value;
+    yylval = yy_value;
 }
 
 %end
@@ -517,10 +517,10 @@ YYLTYPE *yyget_lloc(@p)
 
 %end
 %if yyset_lloc
-void yyset_lloc(YYLTYPE *location@P)
+void yyset_lloc(YYLTYPE *yy_location@P)
 {
     struct yyguts_t *yyg = (struct yyguts_t *)yyscanner;
-    yylloc = location;
+    yylloc = yy_location;
 }
 
 %end
@@ -530,24 +530,24 @@ void yyset_lloc(YYLTYPE *location@P)
 
 pub(crate) const DESTROY: &[u8] = br#"%if reentrant
 /* Makes a scanner with a value for yyextra, which yyalloc may already ask for. Returns 0, or 1 with errno set. */
-int yylex_init_extra(YY_EXTRA_TYPE extra, yyscan_t *scanner)
+int yylex_init_extra(YY_EXTRA_TYPE yy_extra, yyscan_t *yy_scanner)
 {
-    struct yyguts_t asker, *yyg;
+    struct yyguts_t yy_asker, *yyg;
 
-    if (!scanner) {
+    if (!yy_scanner) {
         errno = EINVAL;
         return 1;
     }
-    memset(&asker, 0, sizeof asker);
-    asker.yyextra_r = extra;
-    yyg = (struct yyguts_t *)yyalloc(sizeof *yyg, &asker);
-    *scanner = yyg;
+    memset(&yy_asker, 0, sizeof yy_asker);
+    yy_asker.yyextra_r = yy_extra;
+    yyg = (struct yyguts_t *)yyalloc(sizeof *yyg, &yy_asker);
+    *yy_scanner = yyg;
     if (!yyg) {
         errno = ENOMEM;
         return 1;
     }
     memset(yyg, 0, sizeof *yyg);
-    yyextra = extra;
+    yyextra = yy_extra;
     yyg->yy_start = 1;
 %if stdinit
     yyin = stdin;
@@ -557,16 +557,16 @@ int yylex_init_extra(YY_EXTRA_TYPE extra, yyscan_t *scanner)
 }
 
 /* Makes a scanner. Returns 0, or 1 with errno set. */
-int yylex_init(yyscan_t *scanner)
+int yylex_init(yyscan_t *yy_scanner)
 {
     struct yyguts_t *yyg;
 
-    if (!scanner) {
+    if (!yy_scanner) {
         errno = EINVAL;
         return 1;
     }
     yyg = (struct yyguts_t *)yyalloc(sizeof *yyg, NULL);
-    *scanner = yyg;
+    *yy_scanner = yyg;
     if (!yyg) {
         errno = ENOMEM;
         return 1;
@@ -633,32 +633,32 @@ int yylex_destroy(@p)
 "#;
 
 pub(crate) const MEMORY: &[u8] = br#"%if yyalloc
-void *yyalloc(yy_size_t size@P)
+void *yyalloc(yy_size_t yy_size@P)
 {
 %if reentrant
     (void)yyscanner;
 %end
-    return malloc(size);
+    return malloc(yy_size);
 }
 
 %end
 %if yyrealloc
-void *yyrealloc(void *block, yy_size_t size@P)
+void *yyrealloc(void *yy_block, yy_size_t yy_size@P)
 {
 %if reentrant
     (void)yyscanner;
 %end
-    return realloc(block, size);
+    return realloc(yy_block, yy_size);
 }
 
 %end
 %if yyfree
-void yyfree(void *block@P)
+void yyfree(void *yy_block@P)
 {
 %if reentrant
     (void)yyscanner;
 %end
-    free(block);
+    free(yy_block);
 }
 
 %end
@@ -667,12 +667,12 @@ void yyfree(void *block@P)
 pub(crate) const MAIN: &[u8] = br#"int main(void)
 {
 %if reentrant
-    yyscan_t scanner;
+    yyscan_t yy_scanner;
 
-    if (yylex_init(&scanner) != 0)
+    if (yylex_init(&yy_scanner) != 0)
         return 1;
-    yylex(scanner);
-    yylex_destroy(scanner);
+    yylex(yy_scanner);
+    yylex_destroy(yy_scanner);
 %else
     yylex();
 %end

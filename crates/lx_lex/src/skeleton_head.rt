@@ -229,25 +229,25 @@ struct yy_buffer_state {
 
 "#;
 
-pub(crate) const BUFFERS: &[u8] = br#"void @xrestart(FILE *input_file@P);
-YY_BUFFER_STATE @x_create_buffer(FILE *file, int size@P);
-void @x_switch_to_buffer(YY_BUFFER_STATE new_buffer@P);
-void @x_delete_buffer(YY_BUFFER_STATE b@P);
-void @x_flush_buffer(YY_BUFFER_STATE b@P);
-void @xpush_buffer_state(YY_BUFFER_STATE new_buffer@P);
+pub(crate) const BUFFERS: &[u8] = br#"void @xrestart(FILE *yy_file@P);
+YY_BUFFER_STATE @x_create_buffer(FILE *yy_file, int yy_size@P);
+void @x_switch_to_buffer(YY_BUFFER_STATE yy_new_buffer@P);
+void @x_delete_buffer(YY_BUFFER_STATE yy_buffer@P);
+void @x_flush_buffer(YY_BUFFER_STATE yy_buffer@P);
+void @xpush_buffer_state(YY_BUFFER_STATE yy_new_buffer@P);
 void @xpop_buffer_state(@p);
 %if yy_scan_buffer
-YY_BUFFER_STATE @x_scan_buffer(char *base, yy_size_t size@P);
+YY_BUFFER_STATE @x_scan_buffer(char *yy_base, yy_size_t yy_size@P);
 %end
 %if yy_scan_string
-YY_BUFFER_STATE @x_scan_string(const char *text@P);
+YY_BUFFER_STATE @x_scan_string(const char *yy_text@P);
 %end
 %if yy_scan_bytes
-YY_BUFFER_STATE @x_scan_bytes(const char *bytes, int length@P);
+YY_BUFFER_STATE @x_scan_bytes(const char *yy_bytes, int yy_length@P);
 %end
-void *@xalloc(yy_size_t size@P);
-void *@xrealloc(void *block, yy_size_t size@P);
-void @xfree(void *block@P);
+void *@xalloc(yy_size_t yy_size@P);
+void *@xrealloc(void *yy_block, yy_size_t yy_size@P);
+void @xfree(void *yy_block@P);
 %if !reentrant
 
 extern FILE *@xin, *@xout;
@@ -441,7 +441,7 @@ pub(crate) const GUTS: &[u8] = br#"#ifndef YY_NO_UNISTD_H
 #include <unistd.h>
 #endif
 #if defined __STRICT_ANSI__ && !defined __cplusplus && !defined fileno
-extern int fileno(FILE *stream); /* POSIX has it, and ISO C hides it. */
+extern int fileno(FILE *yy_stream); /* POSIX has it, and ISO C hides it. */
 #endif
 
 #ifndef YY_EXTRA_TYPE
@@ -503,27 +503,27 @@ pub(crate) const HEADER_TYPES: &[u8] = br#"#ifndef YY_EXTRA_TYPE
 "#;
 
 pub(crate) const INTERFACE: &[u8] = br#"%if reentrant
-int @xlex_init(yyscan_t *scanner);
-int @xlex_init_extra(YY_EXTRA_TYPE extra, yyscan_t *scanner);
+int @xlex_init(yyscan_t *yy_scanner);
+int @xlex_init_extra(YY_EXTRA_TYPE yy_extra, yyscan_t *yy_scanner);
 %end
 int @xlex_destroy(@p);
 %if yyget_debug
 int @xget_debug(@p);
 %end
 %if yyset_debug
-void @xset_debug(int debug_flag@P);
+void @xset_debug(int yy_debug_flag@P);
 %end
 %if yyget_in
 FILE *@xget_in(@p);
 %end
 %if yyset_in
-void @xset_in(FILE *in@P);
+void @xset_in(FILE *yy_in@P);
 %end
 %if yyget_out
 FILE *@xget_out(@p);
 %end
 %if yyset_out
-void @xset_out(FILE *out@P);
+void @xset_out(FILE *yy_out@P);
 %end
 %if yyget_leng
 int @xget_leng(@p);
@@ -535,27 +535,27 @@ char *@xget_text(@p);
 int @xget_lineno(@p);
 %end
 %if yyset_lineno
-void @xset_lineno(int line_number@P);
+void @xset_lineno(int yy_line_number@P);
 %end
 %if reentrant
 %if yyget_extra
 YY_EXTRA_TYPE @xget_extra(@p);
 %end
 %if yyset_extra
-void @xset_extra(YY_EXTRA_TYPE extra@P);
+void @xset_extra(YY_EXTRA_TYPE yy_extra@P);
 %end
 %if yyget_column
 int @xget_column(@p);
 %end
 %if yyset_column
-void @xset_column(int column@P);
+void @xset_column(int yy_column@P);
 %end
 %if bison-bridge
 %if yyget_lval
 YYSTYPE *@xget_lval(@p);
 %end
 %if yyset_lval
-void @xset_lval(YYSTYPE *value@P);
+void @xset_lval(YYSTYPE *yy_value@P);
 %end
 %end
 %if bison-locations
@@ -563,7 +563,7 @@ void @xset_lval(YYSTYPE *value@P);
 YYLTYPE *@xget_lloc(@p);
 %end
 %if yyset_lloc
-void @xset_lloc(YYLTYPE *location@P);
+void @xset_lloc(YYLTYPE *yy_location@P);
 %end
 %end
 %end
@@ -595,10 +595,10 @@ pub(crate) const CLOSING: &[u8] = br#"#undef @xIN_HEADER
 pub(crate) const HELPERS: &[u8] = br#"static void yy_need_buffer(@p);
 static void yy_load_position(@p);
 static int yy_refill(@p);
-static void yynoreturn yy_unused yy_fatal_error(const char *message@P);
+static void yynoreturn yy_unused yy_fatal_error(const char *yy_message@P);
 %if unput
 #ifndef YY_NO_UNPUT
-static void yy_unused yyunput(int c, char *text@P);
+static void yy_unused yyunput(int yy_byte, char *yy_text@P);
 #endif
 %end
 %if input
@@ -612,7 +612,7 @@ static int yy_unused input(@p);
 %end
 %if stack
 %if yy_push_state
-static void yy_unused yy_push_state(int new_state@P);
+static void yy_unused yy_push_state(int yy_new_state@P);
 %end
 %if yy_pop_state
 static void yy_unused yy_pop_state(@p);

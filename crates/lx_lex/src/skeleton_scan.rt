@@ -1,42 +1,42 @@
 //! The scanner itself: the match, refilling, and the bytes that actions give back or take.
 
 pub(crate) const READ: &[u8] = br#"#ifndef YY_INPUT
-/* Reads at most max_size bytes of yyin. Returns their number, and 0 at the end. */
-static int yy_unused yy_default_input(char *text, int max_size@P)
+/* Reads at most yy_max_size bytes of yyin. Returns their number, and 0 at the end. */
+static int yy_unused yy_default_input(char *yy_text, int yy_max_size@P)
 {
 %if read
-    long count;
+    long yy_count;
 %if reentrant
     struct yyguts_t *yyg = (struct yyguts_t *)yyscanner;
 %end
 
-    while ((count = (long)read(fileno(yyin), text, (size_t)max_size)) < 0) {
+    while ((yy_count = (long)read(fileno(yyin), yy_text, (size_t)yy_max_size)) < 0) {
         if (errno != EINTR)
             YY_FATAL_ERROR("input in flex scanner failed");
     }
-    return (int)count;
+    return (int)yy_count;
 %else
-    size_t count = 0;
+    size_t yy_count = 0;
 %if reentrant
     struct yyguts_t *yyg = (struct yyguts_t *)yyscanner;
 %end
 
     if (YY_CURRENT_BUFFER_LVALUE->yy_is_interactive) {
-        int c = EOF;
-        while (count < (size_t)max_size && (c = getc(yyin)) != EOF) {
-            text[count++] = (char)c;
-            if (c == '\n')
+        int yy_byte = EOF;
+        while (yy_count < (size_t)yy_max_size && (yy_byte = getc(yyin)) != EOF) {
+            yy_text[yy_count++] = (char)yy_byte;
+            if (yy_byte == '\n')
                 break;
         }
-        if (c == EOF && ferror(yyin))
+        if (yy_byte == EOF && ferror(yyin))
             YY_FATAL_ERROR("input in flex scanner failed");
-        return (int)count;
+        return (int)yy_count;
     }
     for (;;) {
         errno = 0;
-        count = fread(text, 1, (size_t)max_size, yyin);
-        if (count > 0 || !ferror(yyin))
-            return (int)count;
+        yy_count = fread(yy_text, 1, (size_t)yy_max_size, yyin);
+        if (yy_count > 0 || !ferror(yyin))
+            return (int)yy_count;
         if (errno != EINTR)
             YY_FATAL_ERROR("input in flex scanner failed");
         clearerr(yyin); /* a signal came in between */
@@ -49,12 +49,12 @@ static int yy_unused yy_default_input(char *text, int max_size@P)
 "#;
 
 pub(crate) const STEPS: &[u8] = br#"/* Returns 1 if some byte leads on from a row. */
-static int yy_has_steps(unsigned int row)
+static int yy_has_steps(unsigned int yy_row)
 {
-    unsigned int i;
+    unsigned int yy_i;
 
-    for (i = 0; i < YY_RULE_COLUMN; ++i) {
-        if (yy_rows[row + i] != 0)
+    for (yy_i = 0; yy_i < YY_RULE_COLUMN; ++yy_i) {
+        if (yy_rows[yy_row + yy_i] != 0)
             return 1;
     }
     return 0;
@@ -67,32 +67,33 @@ pub(crate) const CUT: &[u8] = br#"/* The class of a byte of a match in the rows 
 
 /* Returns where the token of a rule r/s ends whose lengths vary both: after the longest text of r that a text of s follows up to the end of the match.
    Goes over the match by the rows of r, and then back from its end by the rows of s in reverse. */
-static char *yy_cut_match(char *from, char *to, unsigned int token_row, unsigned int context_row, int token_may_be_empty, int context_may_be_empty@P)
+static char *yy_cut_match(char *yy_from, char *yy_to, unsigned int yy_token_row, unsigned int yy_context_row,
+    int yy_token_may_be_empty, int yy_context_may_be_empty@P)
 {
-    size_t length = (size_t)(to - from), size = length / CHAR_BIT + 1, i;
-    unsigned char few[64], *ends = few; /* a bit for each place where a text of r ends */
+    size_t yy_length = (size_t)(yy_to - yy_from), yy_size = yy_length / CHAR_BIT + 1, yy_i;
+    unsigned char yy_few[64], *yy_ends = yy_few; /* a bit for each place where a text of r ends */
 
-    if (size > sizeof few)
-        ends = (unsigned char *)yyalloc(size@A);
-    if (!ends)
+    if (yy_size > sizeof yy_few)
+        yy_ends = (unsigned char *)yyalloc(yy_size@A);
+    if (!yy_ends)
         YY_FATAL_ERROR("out of dynamic memory in yylex()");
-    memset(ends, 0, size);
-    ends[0] = token_may_be_empty != 0;
-    for (i = 0; i < length && (token_row = yy_cut_rows[token_row + YY_CUT_CLASS(from[i])]) != 0; ++i) {
-        if (yy_cut_rows[token_row + YY_CUT_RULE_COLUMN] != 0)
-            ends[(i + 1) / CHAR_BIT] |= (unsigned char)(1u << (i + 1) % CHAR_BIT);
+    memset(yy_ends, 0, yy_size);
+    yy_ends[0] = yy_token_may_be_empty != 0;
+    for (yy_i = 0; yy_i < yy_length && (yy_token_row = yy_cut_rows[yy_token_row + YY_CUT_CLASS(yy_from[yy_i])]) != 0; ++yy_i) {
+        if (yy_cut_rows[yy_token_row + YY_CUT_RULE_COLUMN] != 0)
+            yy_ends[(yy_i + 1) / CHAR_BIT] |= (unsigned char)(1u << (yy_i + 1) % CHAR_BIT);
     }
-    i = length;
-    if (!context_may_be_empty || !(ends[i / CHAR_BIT] >> i % CHAR_BIT & 1)) {
-        while (i > 0 && (context_row = yy_cut_rows[context_row + YY_CUT_CLASS(from[i - 1])]) != 0) {
-            --i;
-            if (yy_cut_rows[context_row + YY_CUT_RULE_COLUMN] != 0 && (ends[i / CHAR_BIT] >> i % CHAR_BIT & 1))
+    yy_i = yy_length;
+    if (!yy_context_may_be_empty || !(yy_ends[yy_i / CHAR_BIT] >> yy_i % CHAR_BIT & 1)) {
+        while (yy_i > 0 && (yy_context_row = yy_cut_rows[yy_context_row + YY_CUT_CLASS(yy_from[yy_i - 1])]) != 0) {
+            --yy_i;
+            if (yy_cut_rows[yy_context_row + YY_CUT_RULE_COLUMN] != 0 && (yy_ends[yy_i / CHAR_BIT] >> yy_i % CHAR_BIT & 1))
                 break;
         }
     }
-    if (ends != few)
-        yyfree(ends@A);
-    return from + i;
+    if (yy_ends != yy_few)
+        yyfree(yy_ends@A);
+    return yy_from + yy_i;
 }
 
 "#;
@@ -348,26 +349,26 @@ pub(crate) const YYLEX_END: &[u8] = br#"        case YY_DEFAULT_RULE:
 "#;
 
 pub(crate) const GROW: &[u8] = br#"/* Doubles the current buffer, or ends with a message. */
-static void yy_grow_buffer(const char *message@P)
+static void yy_grow_buffer(const char *yy_message@P)
 {
 %if reentrant
     struct yyguts_t *yyg = (struct yyguts_t *)yyscanner;
 %end
-    YY_BUFFER_STATE b = YY_CURRENT_BUFFER_LVALUE;
-    size_t text = (size_t)(@gyytext_ptr - b->yy_ch_buf), place = (size_t)(@gyy_c_buf_p - b->yy_ch_buf);
-    char *grown = NULL;
+    YY_BUFFER_STATE yy_buffer = YY_CURRENT_BUFFER_LVALUE;
+    size_t yy_text = (size_t)(@gyytext_ptr - yy_buffer->yy_ch_buf), yy_place = (size_t)(@gyy_c_buf_p - yy_buffer->yy_ch_buf);
+    char *yy_grown = NULL;
 
-    if (b->yy_is_our_buffer && b->yy_buf_size < INT_MAX / 2 - 2) {
-        int size = b->yy_buf_size > 0 ? 2 * b->yy_buf_size : 2;
-        grown = (char *)yyrealloc(b->yy_ch_buf, (yy_size_t)size + 2@A);
-        if (grown)
-            b->yy_buf_size = size;
+    if (yy_buffer->yy_is_our_buffer && yy_buffer->yy_buf_size < INT_MAX / 2 - 2) {
+        int yy_size = yy_buffer->yy_buf_size > 0 ? 2 * yy_buffer->yy_buf_size : 2;
+        yy_grown = (char *)yyrealloc(yy_buffer->yy_ch_buf, (yy_size_t)yy_size + 2@A);
+        if (yy_grown)
+            yy_buffer->yy_buf_size = yy_size;
     }
-    if (!grown)
-        YY_FATAL_ERROR(message);
-    b->yy_ch_buf = grown;
-    @gyytext_ptr = grown + text;
-    @gyy_c_buf_p = grown + place;
+    if (!yy_grown)
+        YY_FATAL_ERROR(yy_message);
+    yy_buffer->yy_ch_buf = yy_grown;
+    @gyytext_ptr = yy_grown + yy_text;
+    @gyy_c_buf_p = yy_grown + yy_place;
 }
 
 "#;
@@ -379,38 +380,38 @@ static int yy_refill(@p)
 %if reentrant
     struct yyguts_t *yyg = (struct yyguts_t *)yyscanner;
 %end
-    YY_BUFFER_STATE b = YY_CURRENT_BUFFER_LVALUE;
+    YY_BUFFER_STATE yy_buffer = YY_CURRENT_BUFFER_LVALUE;
     char *yy_dest;
     int yy_kept, yy_room, yy_count = 0;
 
-    if (b->yy_buffer_status == YY_BUFFER_NEW) {
-        b->yy_input_file = yyin;
-        b->yy_buffer_status = YY_BUFFER_NORMAL;
+    if (yy_buffer->yy_buffer_status == YY_BUFFER_NEW) {
+        yy_buffer->yy_input_file = yyin;
+        yy_buffer->yy_buffer_status = YY_BUFFER_NORMAL;
     }
-    if (!b->yy_fill_buffer || b->yy_buffer_status == YY_BUFFER_EOF_PENDING)
+    if (!yy_buffer->yy_fill_buffer || yy_buffer->yy_buffer_status == YY_BUFFER_EOF_PENDING)
         return 0;
 
-    yy_kept = (int)(b->yy_ch_buf + @gyy_n_chars - @gyytext_ptr);
-    if (@gyytext_ptr != b->yy_ch_buf) {
-        memmove(b->yy_ch_buf, @gyytext_ptr, (size_t)yy_kept);
-        @gyy_c_buf_p -= @gyytext_ptr - b->yy_ch_buf;
-        @gyytext_ptr = b->yy_ch_buf;
+    yy_kept = (int)(yy_buffer->yy_ch_buf + @gyy_n_chars - @gyytext_ptr);
+    if (@gyytext_ptr != yy_buffer->yy_ch_buf) {
+        memmove(yy_buffer->yy_ch_buf, @gyytext_ptr, (size_t)yy_kept);
+        @gyy_c_buf_p -= @gyytext_ptr - yy_buffer->yy_ch_buf;
+        @gyytext_ptr = yy_buffer->yy_ch_buf;
     }
-    while ((yy_room = b->yy_buf_size - yy_kept - 1) <= 0)
+    while ((yy_room = yy_buffer->yy_buf_size - yy_kept - 1) <= 0)
         yy_grow_buffer("fatal error - scanner input buffer overflow"@A);
     if (yy_room > YY_READ_BUF_SIZE)
         yy_room = YY_READ_BUF_SIZE;
 
-    yy_dest = b->yy_ch_buf + yy_kept;
+    yy_dest = yy_buffer->yy_ch_buf + yy_kept;
     YY_INPUT(yy_dest, yy_count, yy_room);
     if (yy_count <= 0) {
         yy_count = 0;
-        b->yy_buffer_status = YY_BUFFER_EOF_PENDING;
+        yy_buffer->yy_buffer_status = YY_BUFFER_EOF_PENDING;
     }
-    @gyy_n_chars = b->yy_n_chars = yy_kept + yy_count;
-    while (@gyy_n_chars > b->yy_buf_size) /* YY_INPUT gave more than it was asked for. */
+    @gyy_n_chars = yy_buffer->yy_n_chars = yy_kept + yy_count;
+    while (@gyy_n_chars > yy_buffer->yy_buf_size) /* YY_INPUT gave more than it was asked for. */
         yy_grow_buffer("out of dynamic memory in yy_get_next_buffer()"@A);
-    b->yy_ch_buf[@gyy_n_chars] = b->yy_ch_buf[@gyy_n_chars + 1] = YY_END_OF_BUFFER_CHAR;
+    yy_buffer->yy_ch_buf[@gyy_n_chars] = yy_buffer->yy_ch_buf[@gyy_n_chars + 1] = YY_END_OF_BUFFER_CHAR;
     return yy_count > 0;
 }
 
@@ -418,28 +419,28 @@ static int yy_refill(@p)
 
 pub(crate) const UNPUT: &[u8] = br#"#ifndef YY_NO_UNPUT
 /* Puts a byte before the next one. Nothing reads the second parameter, which programs pass that call yyunput by name. */
-static void yyunput(int c, char *text@P)
+static void yyunput(int yy_byte, char *yy_text@P)
 {
 %if reentrant
     struct yyguts_t *yyg = (struct yyguts_t *)yyscanner;
 %end
-    YY_BUFFER_STATE b = YY_CURRENT_BUFFER_LVALUE;
+    YY_BUFFER_STATE yy_buffer = YY_CURRENT_BUFFER_LVALUE;
 
-    (void)text;
+    (void)yy_text;
     *@gyy_c_buf_p = @gyy_hold_char;
-    if (@gyy_c_buf_p == b->yy_ch_buf) { /* Moves the text to the buffer's end. */
-        size_t shift;
-        if (@gyy_n_chars >= b->yy_buf_size)
+    if (@gyy_c_buf_p == yy_buffer->yy_ch_buf) { /* Moves the text to the buffer's end. */
+        size_t yy_shift;
+        if (@gyy_n_chars >= yy_buffer->yy_buf_size)
             yy_grow_buffer("flex scanner push-back overflow"@A);
-        shift = (size_t)(b->yy_buf_size - @gyy_n_chars);
-        memmove(b->yy_ch_buf + shift, b->yy_ch_buf, (size_t)@gyy_n_chars + 2);
-        @gyy_n_chars = b->yy_n_chars = b->yy_buf_size;
-        @gyytext_ptr += shift;
-        @gyy_c_buf_p += shift;
+        yy_shift = (size_t)(yy_buffer->yy_buf_size - @gyy_n_chars);
+        memmove(yy_buffer->yy_ch_buf + yy_shift, yy_buffer->yy_ch_buf, (size_t)@gyy_n_chars + 2);
+        @gyy_n_chars = yy_buffer->yy_n_chars = yy_buffer->yy_buf_size;
+        @gyytext_ptr += yy_shift;
+        @gyy_c_buf_p += yy_shift;
     }
-    *--@gyy_c_buf_p = @gyy_hold_char = (char)c;
+    *--@gyy_c_buf_p = @gyy_hold_char = (char)yy_byte;
 %if yylineno
-    if (c == '\n')
+    if (yy_byte == '\n')
         --yylineno;
 %end
 }
@@ -458,7 +459,7 @@ static int input(@p)
 %if reentrant
     struct yyguts_t *yyg = (struct yyguts_t *)yyscanner;
 %end
-    int c;
+    int yy_byte;
 
     *@gyy_c_buf_p = @gyy_hold_char;
     while (@gyy_c_buf_p == YY_CURRENT_BUFFER_LVALUE->yy_ch_buf + @gyy_n_chars) {
@@ -472,19 +473,19 @@ static int input(@p)
         if (!@gyy_did_buffer_switch_on_eof)
             YY_NEW_FILE;
     }
-    c = (unsigned char)*@gyy_c_buf_p;
+    yy_byte = (unsigned char)*@gyy_c_buf_p;
     *@gyy_c_buf_p = '\0'; /* yytext still ends here. */
     @gyy_hold_char = *++@gyy_c_buf_p;
-    YY_CURRENT_BUFFER_LVALUE->yy_at_bol = c == '\n';
+    YY_CURRENT_BUFFER_LVALUE->yy_at_bol = yy_byte == '\n';
 %if yylineno
-    if (c == '\n') {
+    if (yy_byte == '\n') {
         ++yylineno;
 %if reentrant
         yycolumn = 0;
 %end
     }
 %end
-    return c;
+    return yy_byte;
 }
 #endif
 

@@ -1,7 +1,7 @@
 //! Makes the specification of a scanner from the rules of a file for lex or flex.
 
 ghost use Rattle.std.specs.Cmp.Lexicographic.{pointwise};
-ghost use Rattle.std.specs.Prelude.{◌≡◌, ◌++◌, ◌∷◌, [], false, true, map, nat_eq, IfOk, IfSome, IsTrue, OnOk, Some};
+ghost use Rattle.std.specs.Prelude.{◌≡◌, ◌++◌, ◌+◌, ◌<◌, ◌∷◌, [], false, true, length, map, nat_eq, IfOk, IfSome, IsTrue, OnOk, Some};
 ghost use Rattle.std.specs.List.{list_all, list_any};
 ghost use Rattle.std.specs.Option.{option_map};
 ghost use Rattle.lx_ere.specs.Bounds.{has_ordered_bounds};
@@ -9,6 +9,8 @@ ghost use Rattle.lx_ere.specs.Regex as ere;
 ghost use Rattle.lx_ere.specs.Regex.{regex_of};
 ghost use Rattle.lx_flex_pattern.specs.ReadingOf as flex;
 ghost use Rattle.lx_lex.specs.Checked.{is_idle, is_sound};
+ghost use Rattle.lx_lex.specs.Cuts as cuts;
+ghost use Rattle.lx_lex.specs.Cuts.{IsCutSpec, part_rule, part_rules, parts_of, with_parts};
 ghost use Rattle.lx_lex.specs.Translation.{IsPlainSpec, IsScannerSpec, before_rules, plain_rule, reach_of, rules_of, with_context};
 ghost use Rattle.lx_lex.specs.views.{file_rule};
 ghost use Rattle.lx_rules.specs.Invariant.{are_conditions, are_distinct, are_rising_below, are_start_conditions, begins_initial};
@@ -18,7 +20,7 @@ ghost use Rattle.lx_rules.specs.views.Conditions.{condition_view};
 ghost use Rattle.lx_rules.specs.views.Rules.{rule_view};
 ghost use Rattle.lx_rules.specs.views.Specs.{spec_view};
 
-use crate::outline::{is_varying, outline_of};
+use crate::outline::{cut_between, is_varying};
 use lx_c::pushing::push_number;
 use lx_ere::{ByteSet, Expr, Pattern};
 use lx_flex::rules::FlexRule;
@@ -37,14 +39,18 @@ fn then(alloc: Global, first: Expr, second: Expr) -> Result<Expr, AllocError>
 }
 
 // Returns an expression that matches the texts of either.
-fn either(alloc: Global, this: Expr, that: Expr) -> Result<Expr, AllocError> {
+fn either(alloc: Global, this: Expr, that: Expr) -> Result<Expr, AllocError>
+    ensures { IfOk result (λ e. regex_of e ≡ ere.or (regex_of this) (regex_of that)) }
+{
     let this = Box::new(alloc, this)?;
     let that = Box::new(alloc, that)?;
     Ok(Expr::Or(this, that))
 }
 
 // Returns an expression that is repeated.
-fn times(alloc: Global, body: Expr, low: u8, high: Option<u8>) -> Result<Expr, AllocError> {
+fn times(alloc: Global, body: Expr, low: u8, high: Option<u8>) -> Result<Expr, AllocError>
+    ensures { IfOk result (λ e. regex_of e ≡ ere.times (regex_of body) low high) }
+{
     let body = Box::new(alloc, body)?;
     Ok(Expr::Times { body, low, high })
 }
@@ -335,34 +341,13 @@ pub fn specification_of(
     Ok(plain_specification(alloc, conditions, rules))
 }
 
-// Returns a copy of an expression.
-fn copy_of(alloc: Global, tree: &Expr) -> Result<Expr, AllocError> {
-    match tree {
-        Expr::Nil => Ok(Expr::Nil),
-        Expr::Set(set) => Ok(Expr::Set(set.union(&ByteSet::empty()))),
-        Expr::Then(first, second) => {
-            let first = copy_of(alloc, first)?;
-            let second = copy_of(alloc, second)?;
-            then(alloc, first, second)
-        }
-        Expr::Or(this, that) => {
-            let this = copy_of(alloc, this)?;
-            let that = copy_of(alloc, that)?;
-            either(alloc, this, that)
-        }
-        Expr::Times { body, low, high } => {
-            let body = copy_of(alloc, body)?;
-            times(alloc, body, *low, *high)
-        }
-        Expr::Name(name) => Ok(Expr::Name(name.clone()?)),
-    }
-}
-
 // Returns the expression that matches the texts of another one, each from its last byte to its first.
-fn reversed(alloc: Global, tree: &Expr) -> Result<Expr, AllocError> {
+fn reversed(alloc: Global, tree: &Expr) -> Result<Expr, AllocError>
+    ensures { IfOk result (λ e. regex_of e ≡ cuts.reversed (regex_of tree.now)) }
+{
     match tree {
         Expr::Nil => Ok(Expr::Nil),
-        Expr::Set(set) => Ok(Expr::Set(set.union(&ByteSet::empty()))),
+        Expr::Set(set) => Ok(Expr::Set(set.clone()?)),
         Expr::Then(first, second) => {
             let last = reversed(alloc, second)?;
             let first = reversed(alloc, first)?;
@@ -381,21 +366,14 @@ fn reversed(alloc: Global, tree: &Expr) -> Result<Expr, AllocError> {
     }
 }
 
-// Adds a condition with one rule that is active in it alone.
-fn add_part(
-    alloc: Global,
-    conditions: &mut Vec<Condition>,
-    rules: &mut Vec<Rule>,
-    line: u32,
-    expr: Expr,
-) -> Result<(), AllocError> {
-    let number = u16::try_from(conditions.len()).unwrap_or(u16::MAX);
-    let mut name = Vec::from_slice(alloc, b"part")?;
-    push_number(&mut name, u64::from(number))?;
-    conditions.push(Condition {
-        name,
-        exclusive: true,
-    })?;
+// Adds the rule of a part. It is active in a condition of its own alone.
+fn add_part(alloc: Global, rules: &mut Vec<Rule>, line: u32, expr: Expr) -> Result<(), AllocError>
+    ensures count { OnOk result (length rules.new.items ≡ length rules.old.items + 1) }
+    ensures rule { OnOk result (length rules.old.items < 65535
+        → map rule_view rules.new.items ≡ map rule_view rules.old.items
+        ++ part_rule (length rules.old.items + 1) (record { line = line; tree = regex_of expr }) ∷ []) }
+{
+    let number = u16::try_from(rules.len().saturating_add(1)).unwrap_or(u16::MAX);
     let mut active = Vec::new(alloc);
     active.push(number)?;
     rules.push(Rule {
@@ -411,29 +389,77 @@ fn add_part(
     Ok(())
 }
 
-/// Makes the specification that finds where tokens with trailing context of several lengths end. It has two conditions for each such rule r/s: in the
-/// first, r is matched, and in the second s from its last byte to its first. Returns `None` if there are too many.
-pub fn cut_specification_of(alloc: Global, raws: &[FlexRule]) -> Result<Option<Spec>, AllocError> {
+// Adds the rules of both parts of a rule with trailing context.
+fn add_both(
+    alloc: Global,
+    rules: &mut Vec<Rule>,
+    line: u32,
+    token: &Expr,
+    context: &Expr,
+) -> Result<(), AllocError>
+    ensures count { OnOk result (length rules.new.items ≡ length rules.old.items + 2) }
+    ensures rules { OnOk result (length rules.new.items < 65536
+        → map rule_view rules.new.items ≡ map rule_view rules.old.items
+        ++ part_rules (length rules.old.items + 1) (with_parts true line (regex_of token.now) (regex_of context.now) [])) }
+{
+    add_part(alloc, rules, line, token.clone()?)?;
+    add_part(alloc, rules, line, reversed(alloc, context)?)
+}
+
+// Adds the rules of the parts of a rule, if both vary.
+fn add_parts(alloc: Global, rules: &mut Vec<Rule>, raw: &FlexRule) -> Result<(), AllocError>
+    ensures count { OnOk result (length rules.new.items
+        ≡ length rules.old.items + length (parts_of (file_rule raw.now ∷ []))) }
+    ensures rules { OnOk result (length rules.new.items < 65536
+        → map rule_view rules.new.items ≡ map rule_view rules.old.items
+        ++ part_rules (length rules.old.items + 1) (parts_of (file_rule raw.now ∷ []))) }
+{
+    let Some(reading) = &raw.reading else {
+        return Ok(());
+    };
+    let Some(context) = &reading.trailing else {
+        return Ok(());
+    };
+    let token = &reading.pattern.expr;
+    if is_varying(cut_between(token, context)) {
+        return add_both(alloc, rules, raw.place.line, token, context);
+    }
+    Ok(())
+}
+
+// Returns `INITIAL`, and this number of further conditions.
+fn part_conditions(alloc: Global, count: usize) -> Result<Vec<Condition>, AllocError>
+    ensures { IfOk result (λ conditions. length conditions.items ≡ count + 1) }
+{
     let mut conditions = Vec::new(alloc);
-    let mut rules = Vec::new(alloc);
     conditions.push(Condition {
         name: Vec::from_slice(alloc, b"INITIAL")?,
         exclusive: false,
     })?;
-    for raw in raws {
-        let Some(reading) = &raw.reading else {
-            continue;
-        };
-        let Some(context) = &reading.trailing else {
-            continue;
-        };
-        if is_varying(outline_of(reading).cut) {
-            let line = raw.place.line;
-            let token = copy_of(alloc, &reading.pattern.expr)?;
-            add_part(alloc, &mut conditions, &mut rules, line, token)?;
-            let context = reversed(alloc, context)?;
-            add_part(alloc, &mut conditions, &mut rules, line, context)?;
-        }
+    for number in 0..count {
+        let mut name = Vec::from_slice(alloc, b"part")?;
+        push_number(&mut name, number as u64)?;
+        conditions.push(Condition {
+            name,
+            exclusive: true,
+        })?;
     }
+    Ok(conditions)
+}
+
+/// Makes the specification that finds where tokens with trailing context of several lengths end. It has two rules for each such rule r/s of the file, each
+/// in a condition of its own: the first matches r, and the second s from its last byte to its first. Returns `None` if there are too many.
+pub fn cut_specification_of(alloc: Global, raws: &[FlexRule]) -> Result<Option<Spec>, AllocError>
+    ensures { IfOk result (λ made.
+        IfSome made (λ spec. IsCutSpec (map file_rule raws.now) (spec_view spec))) }
+{
+    let mut rules = Vec::new(alloc);
+    for raw in raws {
+        add_parts(alloc, &mut rules, raw)?;
+    }
+    if rules.len() >= MAX_START_CONDITIONS {
+        return Ok(None);
+    }
+    let conditions = part_conditions(alloc, rules.len())?;
     Ok(plain_specification(alloc, conditions, rules))
 }
