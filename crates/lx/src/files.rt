@@ -4,10 +4,11 @@ use crate::names::text_of;
 use lx_piece::Input;
 use lx_tool::{STANDARD_INPUT, SourceFault, Sources, name_bytes, read_names, read_to_end};
 use std::alloc::Global;
+use std::env::FillError;
 use std::fs::File;
 use std::io;
 use std::io::{Error, ErrorKind, Input as StandardInput, Read};
-use std::rt::Files;
+use std::rt::{Env, Files};
 
 // The message of an error has at most 80 bytes.
 const NOT_UTF8: &str = "its name isn't UTF-8; name a link to it, or read it as -";
@@ -52,7 +53,7 @@ pub struct FileSources<'a, R> {
     cut_reasons: Vec<Option<Reason>>,
 }
 
-impl<'a, R: AllocGlobal + Files + StandardInput> FileSources<'a, R> {
+impl<'a, R: AllocGlobal + Env + Files + StandardInput> FileSources<'a, R> {
     /// Returns the files that the runtime reaches.
     pub fn new(rt: &'a R) -> FileSources<'a, R> {
         FileSources {
@@ -127,7 +128,7 @@ impl<'a, R: AllocGlobal + Files + StandardInput> FileSources<'a, R> {
     }
 }
 
-impl<R: AllocGlobal + Files + StandardInput> Sources for FileSources<'_, R> {
+impl<R: AllocGlobal + Env + Files + StandardInput> Sources for FileSources<'_, R> {
     ghost use Rattle.std.specs.Prelude.{⊤};
 
     // no claim about what the system gives for a path
@@ -153,6 +154,14 @@ impl<R: AllocGlobal + Files + StandardInput> Sources for FileSources<'_, R> {
 
     fn reason(&self) -> Option<Error> {
         self.reason.map(Reason::error)
+    }
+
+    fn is_posix(&self) -> bool {
+        let mut few = [0u8; 1];
+        match self.rt.var("POSIXLY_CORRECT", &mut few) {
+            Ok(_) | Err(FillError::TooLong) => true,
+            Err(FillError::NotPresent) => false,
+        }
     }
 
     fn cut_reason(&self, number: usize) -> Option<Error> {

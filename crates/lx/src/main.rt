@@ -12,8 +12,8 @@ use crate::files::FileSources;
 use crate::names::ShownNames;
 use crate::output::PipeOutput;
 use crate::targets::FileTargets;
-use crate::words::{is_posixly_correct, read_words, want_workers};
-use lx_tool::{ScannerWords, print_scanner, run_with, scanner_words};
+use crate::words::{read_words, want_workers};
+use lx_tool::run_with;
 use std::io;
 use std::io::{BufWriter, Input, Print, Write};
 use std::process::ExitCode;
@@ -58,15 +58,5 @@ fn start<
     let mut out = PipeOutput::new(BufWriter::with_capacity(alloc, gathered, io::writer(rt))?);
     let mut sources = FileSources::new(rt);
     let mut targets = FileTargets::new(rt);
-    let status = match scanner_words(&words) {
-        Some(asked) => {
-            let asked = ScannerWords {
-                posix: asked.posix || is_posixly_correct(rt),
-                ..asked
-            };
-            print_scanner(alloc, asked, &mut sources, &mut targets, &mut out, err)
-        }
-        None => run_with(rt, alloc, &words, &mut sources, &mut targets, &mut out, err),
-    };
-    Ok(status)
+    Ok(run_with(rt, alloc, &words, &mut sources, &mut targets, &mut out, err))
 }

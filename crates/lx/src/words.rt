@@ -49,12 +49,3 @@ fn read_long_word<R: Env>(
 pub fn want_workers(words: &[String]) -> bool {
     words.iter().any(|word| word.as_str() == "scan" || word.as_str().starts_with("-j"))
 }
-
-/// Returns true if the environment has POSIXLY_CORRECT, with which `flex` reads patterns as `lex` does.
-pub fn is_posixly_correct<R: Env>(rt: &R) -> bool {
-    let mut few = [0u8; 1];
-    match rt.var("POSIXLY_CORRECT", &mut few) {
-        Ok(_) | Err(FillError::TooLong) => true,
-        Err(FillError::NotPresent) => false,
-    }
-}

@@ -116,10 +116,10 @@ most_rule = record (option_rule (codes "most") (codes "most")) {
   defaults = codes "20" ∷ [];
 }
 
--- `[-q] [-W NAME].. [--most N] [--json] SPEC`
+-- `[--flex] [-q] [-W NAME].. [--most N] [--json] SPEC`
 abbrev pub check_app : App
 check_app =
-    with_rule (with_rule (with_rule (with_rule (with_rule (new_app (codes "check")) quiet_rule) warnings_rule) most_rule) (flag_rule (codes "json"))) (rules_rule (codes "SPEC"))
+    with_rule (with_rule (with_rule (with_rule (with_rule (with_rule (new_app (codes "check")) (flag_rule (codes "flex"))) quiet_rule) warnings_rule) most_rule) (flag_rule (codes "json"))) (rules_rule (codes "SPEC"))
 
 -- `[WORD]`
 abbrev pub explain_app : App
@@ -209,13 +209,15 @@ pub record PlainPrint : Type 0 where
   pub target : Option Text
   pub c : PlainC
 
--- a check of a specification: its name, a flag for quiet findings, the words of `-W`, in order, the greatest number of errors, and a flag for JSON
+-- a check of a specification: its name, a flag for quiet findings, the words of `-W`, in order, the greatest number of errors, a flag for JSON,
+-- and one for a file for flex
 pub record PlainCheck : Type 0 where
   pub rules : Text
   pub quiet : Bool
   pub warnings : List Text
   pub most : ℕ
   pub json : Bool
+  pub flex : Bool
 
 -- a graph: the name of a specification or of tables, and a flag for any number of states
 pub record PlainShow : Type 0 where
@@ -324,6 +326,7 @@ check_in rows = record {
   warnings = values_in (codes "warnings") rows;
   most = most_in rows;
   json = flag_in (codes "json") rows;
+  flex = flag_in (codes "flex") rows;
 }
 
 abbrev pub show_in : List Row → PlainShow
@@ -414,6 +417,7 @@ plain_check c = record {
   warnings = map (λ name. name.now) c.warnings.items;
   most = c.most;
   json = c.json;
+  flex = c.flex;
 }
 
 abbrev pub plain_show : ShowWords → PlainShow

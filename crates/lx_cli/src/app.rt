@@ -19,7 +19,7 @@ pub(crate) fn command<'a>(alloc: Global) -> Result<Command<'a>, AllocError>
         .about("Scans files by the rules of a lex specification.")
         .version(VERSION)
         .after_help(
-            "lx flex FILE.. and lx lex FILE.. print scanners in C of files for flex and lex, with the C code of their actions; lx flex --help has more.\nWithout words, lists a text that the program holds by rules that it holds.",
+            "lx flex FILE.. and lx lex FILE.. print scanners in C of files for flex and lex, with the C code of their actions; lx flex --help has more. lx check --flex FILE.. says what is wrong with such files.\nWithout words, lists a text that the program holds by rules that it holds.",
         )
         .disable_help_subcommand(true)
         .subcommand_required(true);

@@ -242,6 +242,12 @@ const JSON: Argument = Argument {
     help: "Prints the findings as SARIF 2.1.0",
 };
 
+const AS_FLEX: Argument = Argument {
+    id: "flex",
+    form: ArgumentForm::Flag(Name::Long("flex")),
+    help: "Checks files for flex; comes first, and then -q, -W error, and options and files as for lx flex",
+};
+
 // Arguments of `explain`, `show` and `import`.
 const WORD: Argument = Argument {
     id: "WORD",
@@ -305,7 +311,7 @@ const RUN: &[Argument] = &[
     FILES,
 ];
 
-const CHECK: &[Argument] = &[QUIET, WARNINGS, MOST, JSON, SPEC];
+const CHECK: &[Argument] = &[AS_FLEX, QUIET, WARNINGS, MOST, JSON, SPEC];
 
 const EXPLAIN: &[Argument] = &[WORD];
 

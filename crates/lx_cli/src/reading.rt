@@ -107,6 +107,7 @@ fn check_words_of<'a>(alloc: Global, found: &ArgMatches<'a>) -> Result<CheckWord
         warnings: values_of(alloc, found, "warnings")?,
         most: most_of(found),
         json: has_flag(found, "json"),
+        flex: has_flag(found, "flex"),
     })
 }
 

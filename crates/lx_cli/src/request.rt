@@ -57,6 +57,8 @@ pub struct CheckWords<'a> {
     pub most: u8,
     /// `--json`: prints the findings as SARIF.
     pub json: bool,
+    /// `--flex`: checks files for flex.
+    pub flex: bool,
     ghost some: { 0 < most },
     ghost few: { most ≤ most_told },
 }

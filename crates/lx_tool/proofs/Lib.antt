@@ -1,3 +1,4 @@
+mod CutRules
 pub mod GivenListed
 pub mod Helped
 pub mod NameBytes

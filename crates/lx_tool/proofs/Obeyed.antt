@@ -1,5 +1,5 @@
 -- The arguments' request was carried out, or failed for a reason.
-use Rattle.std.proofs.Common.{ℕ, zero, suc, ◌≡◌, ◌≢◌, ◌<◌, List, [], ◌∷◌, ◌++◌, Option, Some, None, All, Bor, Ok, Err, Result, IfOk, IfErr, inl, inr, length, arith, refl, sym, ◌∙◌, ap, ap₂, subst}
+use Rattle.std.proofs.Common.{ℕ, zero, suc, ◌≡◌, ◌≢◌, ◌<◌, List, [], ◌∷◌, ◌++◌, Option, Some, None, All, Bor, Ok, Err, Result, IfOk, IfErr, inl, inr, length, arith, refl, sym, ◌∙◌, ap, ap₂, subst, true}
 use Rattle.std.specs.Prelude.{◌⊎◌, Contains, IfSome, IsOk, MatchOption, OnOk}
 use Rattle.std.proofs.lemmas.List.{length-map}
 use Rattle.std.specs.Io.KnownBytes.{Keeps, Appends}
@@ -24,7 +24,7 @@ use Rattle.lx_tool.specs.Printing.{AreKindsRefused, AreScannerWordsRefused, Fail
 use Rattle.lx_tool.specs.Tabling.{HasNoTables}
 use Rattle.lx_tool.specs.declared.failure.CommandFault.{CommandFault}
 use Rattle.lx_tool.specs.declared.failure.RequestFault.{RequestFault}
-use Rattle.lx_tool.specs.declared.failure.RequestFault.TheVariants.{NoTargets, Outputs}
+use Rattle.lx_tool.specs.declared.failure.RequestFault.TheVariants.{FlexLater, NoTargets, Outputs}
 use Rattle.lx_tool.specs.declared.failure.OutputFault.{OutputFault}
 use Rattle.lx_tool.specs.declared.failure.CommandFault.TheVariants.{Specification, Automaton, Tables, Unprintable, Words, TooManyFiles, InputTwice, Refused, NotRead, Output, Memory}
 
@@ -115,7 +115,7 @@ module _ (old mid new : Option (List ℕ)) (kept : Keeps mid new) where
     }
     obeyed_kept (Some (gen print)) h = (printed_kept (PrintsSpecification print.c) print h.0, h.1)
     obeyed_kept (Some (up print)) h = (printed_kept (PrintsTables print.c) print h.0, h.1)
-    obeyed_kept (Some (check c)) h = (record { text = h.0.text; given = h.0.given; accepted = h.0.accepted; said = h.0.said; tells = h.0.tells; wrote = appends_kept old mid new _ h.0.wrote kept }, h.1)
+    obeyed_kept (Some (check c)) h = (record { plain = h.0.plain; text = h.0.text; given = h.0.given; accepted = h.0.accepted; said = h.0.said; tells = h.0.tells; wrote = appends_kept old mid new _ h.0.wrote kept }, h.1)
     obeyed_kept (Some (explain word)) h = (record { said = h.0.said; wrote = appends_kept old mid new _ h.0.wrote kept; begins = h.0.begins }, h.1)
     obeyed_kept (Some (show s)) h = (shown_kept s h.0, h.1)
     obeyed_kept (Some (imports i)) h = (record { text = h.0.text; given = h.0.given; printed = h.0.printed; of_flex = h.0.of_flex; written = written_kept i.target h.0.printed h.0.written }, h.1)
@@ -271,7 +271,10 @@ module _ {S : Type 0} (gives : S → List ℕ → PlainInput → S → Type 0) (
 
   -- or its arguments are
   pub warning_refused : (c : PlainCheck) → Keeps old new → (failure : CommandFault) → (fault : RequestFault) × (failure ≡ Refused fault) × IsWarningFault fault → HasFailed gives (Some (check c)) before old new failure
-  warning_refused c kept failure h = rw h.1 (λ low. record { cause = inl h.2; tells = tt; kept = kept })
+  warning_refused c kept failure h = rw h.1 (λ low. record { cause = inl (inl h.2); tells = tt; kept = kept })
+
+  pub flex_refused : (c : PlainCheck) → Keeps old new → (failure : CommandFault) → (failure ≡ Refused FlexLater) × (c.flex ≡ true) → HasFailed gives (Some (check c)) before old new failure
+  flex_refused c kept failure h = rw h.0 (λ low. record { cause = inl (inr (refl, h.1)); tells = tt; kept = kept })
 
   -- the word is unknown
   pub explain_refused : (word : Option (List ℕ)) (failure : CommandFault) → (status_of failure < 4 → IsUnexplained word failure × Keeps old new) → HasFailed gives (Some (explain word)) before old new failure

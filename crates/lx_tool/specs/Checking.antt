@@ -17,7 +17,7 @@ use Rattle.lx_tool.specs.Sources.{whole}
 use Rattle.lx_tool.specs.Statuses.{report_in}
 use Rattle.lx_tool.specs.declared.failure.CommandFault.{CommandFault}
 use Rattle.lx_tool.specs.declared.failure.RequestFault.{RequestFault}
-use Rattle.lx_tool.specs.declared.failure.RequestFault.TheVariants.{NoWarning}
+use Rattle.lx_tool.specs.declared.failure.RequestFault.TheVariants.{FlexLater, NoWarning}
 
 -- the text is accepted
 abbrev pub IsAccepted : Report → Type 0
@@ -82,8 +82,9 @@ pub record HasErrors (check : PlainCheck) (said : List ℕ) : Type 0 where
   pub word : HasErrorWord check
   pub warning : check.json ≡ false → TellsOne check said
 
--- They gave the text that the arguments name, whole. It is accepted, and a report was written.
+-- They gave the text that the arguments name, whole. It is accepted, and a report was written. `--flex` isn't among them.
 pub record IsChecked {S : Type 0} (gives : S → List ℕ → PlainInput → S → Type 0) (check : PlainCheck) (before after : S) (old new : Option (List ℕ)) : Type 0 where
+  pub plain : check.flex ≡ false
   pub text : List ℕ
   pub given : gives before check.rules (whole text) after
   pub accepted : IsAcceptedText check.most text
@@ -105,3 +106,7 @@ pub record IsReported (check : PlainCheck) (text : List ℕ) (failure : CommandF
 pub record IsWarningFault (fault : RequestFault) : Type 0 where
   pub word : Bor (List ℕ)
   pub is : fault ≡ NoWarning word
+
+-- The words of `check` are rejected: a word of `-W`, or `--flex`, which isn't the first.
+abbrev pub IsCheckWordsFault : PlainCheck → RequestFault → Type 0
+IsCheckWordsFault check fault = IsWarningFault fault ⊎ ((fault ≡ FlexLater) × (check.flex ≡ true))

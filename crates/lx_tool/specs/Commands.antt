@@ -5,7 +5,7 @@ use Rattle.std.specs.Io.KnownBytes.{Keeps}
 use Rattle.lx_tables.specs.Model.{Table}
 use Rattle.lx_piece.specs.Plans.{PlainInput, max_files}
 use Rattle.lx_cli.specs.CommandLine.{Asked, PlainOrder, PlainPrint, stored, run, scan, gen, up, check, explain, show, imports}
-use Rattle.lx_tool.specs.Checking.{IsChecked, IsReported, IsWarningFault}
+use Rattle.lx_tool.specs.Checking.{IsChecked, IsCheckWordsFault, IsReported}
 use Rattle.lx_tool.specs.Explaining.{IsExplained, IsUnexplained}
 use Rattle.lx_tool.specs.Given.{AreListed, IsNoTable}
 use Rattle.lx_tool.specs.Importing.{AreImportWordsRefused, HasPlacedImport, IsBroughtOver, IsNotImported}
@@ -201,7 +201,7 @@ IsFormRefused (run order) fault = IsWordsFault order fault
 IsFormRefused (scan order) fault = IsWordsFault order fault
 IsFormRefused (gen print) fault = IsTargetRefused print fault ⊎ IsScannerFault print.c fault
 IsFormRefused (up print) fault = IsTargetRefused print fault ⊎ IsScannerFault print.c fault
-IsFormRefused (check c) fault = IsWarningFault fault
+IsFormRefused (check c) fault = IsCheckWordsFault c fault
 IsFormRefused (explain word) fault = ⊥
 IsFormRefused (show s) fault = ⊥
 IsFormRefused (imports i) fault = AreImportWordsRefused i fault

@@ -17,7 +17,7 @@ use Rattle.lx_tool.specs.Statuses.{failure_of_choice}
 use Rattle.lx_tool.specs.declared.failure.CommandFault.{CommandFault}
 use Rattle.lx_tool.specs.declared.failure.CommandFault.TheVariants.{Specification, Automaton, Tables, Unprintable, Words, TooManyFiles, InputTwice, Refused, NotRead, Output, Memory}
 use Rattle.lx_tool.specs.declared.failure.RequestFault.{RequestFault}
-use Rattle.lx_tool.specs.declared.failure.RequestFault.TheVariants.{NoKind, EmptyKind, NoFormat, NoFile, NoName, NoScanner, NoTargets, NoWarning, Outputs, Scanner, ScannerAndHeader, NumberTooLarge}
+use Rattle.lx_tool.specs.declared.failure.RequestFault.TheVariants.{NoKind, EmptyKind, NoFormat, NoFile, NoName, NoScanner, NoTargets, NoWarning, Outputs, Scanner, ScannerAndHeader, NumberTooLarge, FlexLater}
 
 -- ---- the names of files
 
@@ -115,6 +115,7 @@ IsWordsFault order ScannerAndHeader = ⊥
 IsWordsFault order NoScanner = ⊥
 IsWordsFault order (Scanner f) = ⊥
 IsWordsFault order NumberTooLarge = ⊥
+IsWordsFault order FlexLater = ⊥
 
 -- the fault for which a listing's files or its form are rejected, given its tables
 abbrev pub IsListingFault : {S : Type 0} → (S → List ℕ → PlainInput → S → Type 0) → PlainOrder → Table → S → RequestFault → Type 0
@@ -131,6 +132,7 @@ IsListingFault gives order table before ScannerAndHeader = ⊥
 IsListingFault gives order table before NoScanner = ⊥
 IsListingFault gives order table before (Scanner f) = ⊥
 IsListingFault gives order table before NumberTooLarge = FilesHave gives order before (λ names. max_number + 1 < order.form.first + length names)
+IsListingFault gives order table before FlexLater = ⊥
 
 -- LIST names more files than may follow those of the arguments
 abbrev pub IsListTooLong : {S : Type 0} → (S → List ℕ → PlainInput → S → Type 0) → PlainOrder → S → Type 0
@@ -167,6 +169,7 @@ IsFormatFault words ScannerAndHeader = ⊥
 IsFormatFault words NoScanner = ⊥
 IsFormatFault words (Scanner f) = ⊥
 IsFormatFault words NumberTooLarge = ⊥
+IsFormatFault words FlexLater = ⊥
 
 -- these names of files are rejected
 abbrev pub AreNamesRefused : PlainOrder → List (List ℕ) → CommandFault → Type 0

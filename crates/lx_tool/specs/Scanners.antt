@@ -1,27 +1,84 @@
 -- The scanner in C that `lex` and `flex` print.
-use Rattle.std.specs.Prelude.{◌≡◌, ◌⊎◌, ◌++◌, ℕ, Bool, if◌then◌else◌, List, Option, codes}
+use Rattle.std.specs.Prelude.{◌≡◌, ◌⊎◌, ◌++◌, ℕ, Bool, true, false, if◌then◌else◌, nat_eq, ◌&&◌, ◌||◌, List, [], ◌∷◌, Option, Some, None, IfSome, is_some, codes}
+use Rattle.std.specs.Cmp.Lexicographic.{pointwise}
 use Rattle.std.specs.Io.KnownBytes.{Appends, Keeps}
 use Rattle.lx_cli.specs.declared.version.TheConstants.{VERSION}
-use Rattle.lx_lex.specs.Arrays.{HasArrays}
+use Rattle.lx_lex.specs.Arrays.{HasArrays, HasCutArrays}
+use Rattle.lx_lex.specs.Cuts.{IsCutSpec, parts_of}
 use Rattle.lx_lex.specs.Translation.{FileRule, IsScannerSpec}
 use Rattle.lx_rules.specs.Plain.{PlainSpec, StartCondition}
 use Rattle.lx_tables.specs.Model.{AreTablesOf, Table}
 use Rattle.lx_tool.specs.declared.scanner_help.TheConstants.{FLEX_HELP, LEX_HELP}
 use Rattle.lx_tool.specs.Printing.{IsPlaced, IsWritten}
 
--- The rules of the specification are rules that were read, one for one.
-pub record HasFileRules (spec : PlainSpec) : Type 0 where
+-- ---- the words that ask for it
+
+-- true for the name of `lex`, false for that of `flex`
+abbrev pub command_named : List ℕ → Option Bool
+command_named name = if pointwise nat_eq name (codes "lex") then Some true else (if pointwise nat_eq name (codes "flex") then Some false else None)
+
+-- what follows the last `/` of a path, whose rest may still have some
+abbrev pub part_after : List ℕ → List ℕ → List ℕ
+part_after name [] = name
+part_after name (b ∷ rest) = part_after (if nat_eq b 47 then rest else name) rest
+
+abbrev pub first_command : List (List ℕ) → Option Bool
+first_command [] = None
+first_command (word ∷ words) = command_named word
+
+abbrev pub command_or : Option Bool → Option Bool → Option Bool
+command_or (Some posix) other = Some posix
+command_or None other = other
+
+-- True if the program's name is `lex`, or its first word; false for `flex`. The program's name decides.
+abbrev pub scanner_asked : List (List ℕ) → Option Bool
+scanner_asked [] = None
+scanner_asked (program ∷ words) = command_or (command_named (part_after program program)) (first_command words)
+
+-- true if the words are `check` and `--flex`
+abbrev pub are_check_words : List (List ℕ) → Bool
+are_check_words [] = false
+are_check_words (command ∷ []) = false
+are_check_words (command ∷ flag ∷ words) = pointwise nat_eq command (codes "check") && pointwise nat_eq flag (codes "--flex")
+
+-- true if the command line begins with these, after the program's name
+abbrev pub asks_flex_check : List (List ℕ) → Bool
+asks_flex_check [] = false
+asks_flex_check (program ∷ words) = are_check_words words
+
+-- true if the words are for `lex`, `flex` or `check --flex`
+abbrev pub is_for_flex : List (List ℕ) → Bool
+is_for_flex words = is_some (scanner_asked words) || asks_flex_check words
+
+-- ---- the scanner
+
+-- The tables are those of the specification that finds the ends of tokens of these rules.
+pub record IsCutTable (rules : List FileRule) (table : Table) : Type 0 where
+  pub spec : PlainSpec
+  pub of_rules : IsCutSpec rules spec
+  pub are_tables : AreTablesOf spec table
+
+-- There are no such tables only if no rule has trailing context where both parts vary.
+abbrev pub FindsEnds : List FileRule → Option Table → Type 0
+FindsEnds rules None = parts_of rules ≡ []
+FindsEnds rules (Some table) = IsCutTable rules table
+
+-- The rules of the specification are rules that were read, one for one, and the tables find the ends of their tokens.
+pub record IsMade (spec : PlainSpec) (cuts : Option Table) : Type 0 where
   pub conditions : List StartCondition
   pub rules : List FileRule
   pub is_spec : IsScannerSpec conditions rules spec
+  pub finds_ends : FindsEnds rules cuts
 
--- The text is a scanner. It has the arrays of the tables of such a specification.
+-- The text is a scanner. It has the arrays of the tables of such a specification, and those that find the ends of tokens, if there are any.
 pub record IsScanner (text : List ℕ) : Type 0 where
   pub spec : PlainSpec
-  pub of_file : HasFileRules spec
+  pub cuts : Option Table
+  pub is_made : IsMade spec cuts
   pub table : Table
   pub are_tables : AreTablesOf spec table
   pub has_arrays : HasArrays table text
+  pub has_cut_arrays : IfSome cuts (λ t. HasCutArrays t text)
 
 -- A scanner went to the output or to a file, and then a header to a file, if there is one.
 pub record IsScannerPrinted {T : Type 0} (places : T → List ℕ → List ℕ → T → Type 0) (before after : T) (old new : Option (List ℕ)) : Type 0 where
@@ -57,4 +114,11 @@ IsOutcome places posix before after old new = IsAnswered posix before after old 
 pub record IsDone {T : Type 0} (places : T → List ℕ → List ℕ → T → Type 0) (posix : Bool) (before after : T) (old new : Option (List ℕ)) : Type 0 where
   pub sent : Option (List ℕ)
   pub outcome : IsOutcome places posix before after old sent
+  pub flushed : Keeps sent new
+
+-- A report was written, and then the output was flushed.
+pub record IsReportWritten (old new : Option (List ℕ)) : Type 0 where
+  pub said : List ℕ
+  pub sent : Option (List ℕ)
+  pub wrote : Appends old sent said
   pub flushed : Keeps sent new

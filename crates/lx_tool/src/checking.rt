@@ -180,6 +180,18 @@ fn said_of<'a>(
     Ok(said.text)
 }
 
+// Rejects `--flex`, which is another command if it comes first.
+fn judge_flex<'a>(words: &CheckWords<'_>) -> Result<(), CommandFault<'a>>
+    ensures ok { OnOk result (words.now.flex ≡ false) }
+    ensures err { IfErr result (λ failure.
+        (failure ≡ CommandFault.Refused RequestFault.FlexLater) × (words.now.flex ≡ true)) }
+{
+    if words.flex {
+        return Err(CommandFault::Refused(RequestFault::FlexLater));
+    }
+    Ok(())
+}
+
 /// Reports the errors and warnings of a specification. If it is rejected, or has warnings that are errors, the failure carries the output.
 pub(crate) fn check_named<'a, S: Sources, O: Write>(
     alloc: Global,
@@ -192,6 +204,7 @@ pub(crate) fn check_named<'a, S: Sources, O: Write>(
     ensures err { IfErr result (HasFailed S.gives (Some (check-asked (plain_check words.now)))
         sources.old (O.contents out.old) (O.contents out.new)) }
 {
+    judge_flex(words)?;
     let warnings = warnings_asked(words)?;
     let text = read_whole(alloc, sources, words.rules)?;
     let said = said_of(alloc, words, warnings, &text)?;

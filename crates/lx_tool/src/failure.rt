@@ -72,6 +72,9 @@ pub enum RequestFault<'a> {
     /// `-W` has this word, which names no warning.
     #[error("no warning {0}")]
     NoWarning(&'a str),
+    /// `--flex` isn't the first word after `check`.
+    #[error("--flex comes first: lx check --flex [-q] [-W error] [OPTIONS] [FILE..]")]
+    FlexLater,
     /// The last file's number would be above 4,294,967,295.
     #[error("the number of the last file would be above 4294967295")]
     NumberTooLarge,

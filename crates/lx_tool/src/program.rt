@@ -1,11 +1,12 @@
 //! The program `lx`, without the real files and streams.
 
-ghost use Rattle.std.specs.Prelude.{◌≡◌, ◌<◌, ◌≤◌, [], ◌∷◌, Some, None, Ok, Err, IfOk, IfErr, OnOk, IfSome, IsOk, length};
+ghost use Rattle.std.specs.Prelude.{◌≡◌, ◌<◌, ◌≤◌, [], ◌∷◌, false, true, Some, None, Ok, Err, IfOk, IfErr, OnOk, IfSome, IsOk, length};
 ghost use Rattle.std.specs.Io.KnownBytes.{Appends, Keeps};
 ghost use Rattle.lx_cli.specs.CommandLine.{asked_as, asked_by, plain_order, plain_print, run as run-asked, scan as scan-asked, gen as gen-asked, up as up-asked, words_of};
 ghost use Rattle.lx_tool.specs.Commands.{HasDone, HasEnded, HasFailed, HasObeyed, HasPlaced, stored_specification, stored_text};
 ghost use Rattle.lx_tool.specs.Helping.{AskForHelp};
 ghost use Rattle.lx_tool.specs.Planning.{ListsByRules};
+ghost use Rattle.lx_tool.specs.Scanners.{IsDone, IsReportWritten, asks_flex_check, is_for_flex, scanner_asked};
 ghost use Rattle.lx_tool.specs.Sources.{texts_of, whole};
 ghost use Rattle.lx_tool.specs.Statuses.{HasStatusOfCut, WroteReport, status_of};
 ghost use Rattle.lx_tool.specs.Tabling.{HasNoTables};
@@ -22,6 +23,8 @@ use crate::outputs::judge_output;
 use crate::planning::{list_files, listings_are_by_rules};
 use crate::printing::{judge_scanner_words, named_options, print_asked};
 use crate::remarks::{read_tables_named, specification_named, tables_named, tell_size};
+use crate::scanner_check::{check_scanner, flex_check_words};
+use crate::scanners::{print_scanner, scanner_words};
 use crate::session::Session;
 use crate::showing::show_named;
 use crate::source::{Sources, make_input};
@@ -104,9 +107,53 @@ pub fn run<R: Threads + Wait + Sync, S: Sources, O: Write, E: Write>(
     report_end(ended, &notes, sources, &targets, false, err)
 }
 
-/// Does the same as `run`, with three differences. `targets` makes files. The lines of a listing are written in blocks. No line reports an output
-/// whose other end was closed.
+/// Does the same as `run`, with four differences. `targets` makes files. The lines of a listing are written in blocks. No line reports an output
+/// whose other end was closed. Files for flex are served: by the commands `lex` and `flex`, also as the program's name, and by `check --flex`.
 pub fn run_with<R: Threads + Wait + Sync, S: Sources, T: Targets, O: Write + Output, E: Write>(
+    rt: &R,
+    alloc: Global,
+    words: &[String],
+    sources: &mut S,
+    targets: &mut T,
+    out: &mut O,
+    err: &mut E,
+) -> u8
+    ensures known { result ≤ 5 }
+    // The scanner was printed, or the help of its command, or the version.
+    ensures scanner { result ≡ 0 → IfSome (scanner_asked (words_of words.now)) (λ posix.
+        IsDone T.places posix targets.old targets.new (O.contents out.old) (O.contents out.new)) }
+    // A report on files for flex was written.
+    ensures checked { result < 2 → scanner_asked (words_of words.now) ≡ None
+        → asks_flex_check (words_of words.now) ≡ true
+        → IsReportWritten (O.contents out.old) (O.contents out.new) }
+    // Each other command.
+    ensures done { result ≡ 0 → is_for_flex (words_of words.now) ≡ false →
+        IfSome (asked_by (words_of words.now)) (HasDone S.gives sources.old sources.new (O.contents out.old) (O.contents out.new) []) }
+    // If they ask for nothing else, they asked for the help or the version.
+    ensures told { result ≡ 0 → is_for_flex (words_of words.now) ≡ false
+        → asked_by (words_of words.now) ≡ None → AskForHelp (words_of words.now) }
+    // Nothing is still buffered in the program.
+    ensures sent { result ≡ 0 → O.sent out.new }
+    // The file of `-o` was made.
+    ensures placed { result ≡ 0 → is_for_flex (words_of words.now) ≡ false
+        → HasPlaced S.gives T.places T.same sources.old targets.old targets.new
+        (asked_by (words_of words.now)) }
+    // All was listed and a file was cut short; or the arguments, the specification, the tables or a file were rejected. Then nothing was written but
+    // the report of `check`.
+    ensures ended { 0 < result → result < 4 → is_for_flex (words_of words.now) ≡ false →
+        HasEnded S.gives (asked_by (words_of words.now)) sources.old sources.new (O.contents out.old) (O.contents out.new) result }
+{
+    if let Some(asked) = scanner_words(words) {
+        return print_scanner(alloc, asked, sources, targets, out, err);
+    }
+    if let Some(asked) = flex_check_words(words) {
+        return check_scanner(alloc, asked, sources, out, err);
+    }
+    run_command(rt, alloc, words, sources, targets, out, err)
+}
+
+// Runs a command that isn't for files for flex.
+fn run_command<R: Threads + Wait + Sync, S: Sources, T: Targets, O: Write + Output, E: Write>(
     rt: &R,
     alloc: Global,
     words: &[String],

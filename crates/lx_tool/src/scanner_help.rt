@@ -32,9 +32,10 @@ FILE.. are read as one text. Without any, or for -, standard input is read.
   -D NAME[=VALUE]         defines a macro
   -L, --noline            prints no #line directives
   -v, --verbose           prints a summary to standard error
+  -w, --nowarn            prints no warnings
   -V, --version           prints the version
   -h, --help              prints this text
-  -7 -8 -B -C[aefFm] -F -I -T -b -c -f -n -p -w
+  -7 -8 -B -C[aefFm] -F -I -T -b -c -f -n -p
                           are accepted and change nothing
 
 Each word of %option is an option too, as --yylineno or --noyywrap.
@@ -73,9 +74,10 @@ FILE.. are read as one text. Without any, or for -, standard input is read.
   -D NAME[=VALUE]         defines a macro
   -L, --noline            prints no #line directives
   -v, --verbose           prints a summary to standard error
+  -w, --nowarn            prints no warnings
   -V, --version           prints the version
   -h, --help              prints this text
-  -7 -8 -B -C[aefFm] -F -I -T -b -c -f -n -p -w
+  -7 -8 -B -C[aefFm] -F -I -T -b -c -f -n -p
                           are accepted and change nothing
 
 Each word of %option is an option too, as --yylineno or --noyywrap.

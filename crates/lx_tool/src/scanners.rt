@@ -4,326 +4,74 @@ ghost use Rattle.std.specs.Prelude.{◌<◌, ◌≡◌, ◌≤◌, IfOk, OnOk, o
 ghost use Rattle.lx_rules.specs.views.Specs.{spec_view};
 ghost use Rattle.lx_tables.specs.Model.{AreTablesOf};
 ghost use Rattle.std.specs.Io.KnownBytes.{Appends};
+ghost use Rattle.lx_cli.specs.CommandLine.{words_of};
 ghost use Rattle.lx_tool.specs.Printing.{IsPlaced, IsWritten};
-ghost use Rattle.lx_tool.specs.Scanners.{HasFileRules, IsAnswer, IsAnswered, IsDone, IsOutcome, IsScanner, IsScannerPrinted};
+ghost use Rattle.lx_tool.specs.Scanners.{IsAnswer, IsAnswered, IsDone, IsMade, IsOutcome, IsScanner, IsScannerPrinted, command_named, part_after, scanner_asked};
 
-use crate::names::name_bytes;
 use crate::output::Output;
 use crate::remarks::tell_size;
+use crate::scanner_fault::ScannerFault;
 use crate::scanner_help::{FLEX_HELP, LEX_HELP};
-use crate::source::{STANDARD_INPUT, SourceFault, Sources};
-use crate::target::{TargetFault, Targets};
-use lx_auto::{BuildFault, build_merged};
+use crate::scanner_input::{read_whole_text, source_names};
+use crate::scanner_making::{MadeScanner, made_of};
+use crate::scanner_report::{NamedText, push_reports};
+use crate::source::Sources;
+use crate::target::Targets;
 use lx_cli::VERSION;
+use lx_flex::Reports;
 use lx_flex::file::{FlexFile, read_file};
-use lx_flex::flags::{FlagFault, FlexAnswer, FlexCommand, read_command};
-use lx_flex::importing::conditions_of;
+use lx_flex::flags::{FlexAnswer, FlexCommand, read_command};
 use lx_flex::options::FlexOptions;
-use lx_flex::rules::FlexRule;
-use lx_flex::{ImportCause, ImportFault, ImportReport};
-use lx_lex::{
-    FileOutline, PrintOptions, SourceName, cut_specification_of, header_of, place_in, scanner_of,
-    specification_of, split,
-};
-use lx_rules::{Condition, Spec};
-use lx_tables::Tables;
-use std::alloc::{AllocError, AllocFailed, Global};
+use lx_lex::{PrintOptions, header_of, scanner_of};
+use std::alloc::{AllocError, Global};
 use std::io::Write;
-use thiserror::Error;
 
 /// The command line of `lex` or of `flex`.
 #[derive(Clone, Copy, Debug)]
-pub struct ScannerWords<'a> {
+pub(crate) struct ScannerWords<'a> {
     /// True for `lex`, whose patterns are those of POSIX.
-    pub posix: bool,
+    pub(crate) posix: bool,
     /// Words after the name of the command.
-    pub words: &'a [String],
-}
-
-/// Reason why no scanner is printed.
-#[derive(Debug, Drop, Error)]
-enum ScannerFault<'a> {
-    /// The command line is rejected.
-    #[error("{0}")]
-    Flags(FlagFault<'a>),
-    /// An output is an input, or the other output.
-    #[error("an output would overwrite {0}; name another file")]
-    Overwrites(&'a str),
-    /// The name of an output isn't UTF-8.
-    #[error("the name of an output isn't UTF-8")]
-    OddName,
-    /// The file has faults, which are reported.
-    #[error("no scanner is made")]
-    Faults,
-    /// Too many rules have trailing context of several lengths.
-    #[error("more than 31 rules have trailing context r/s where both r and s match texts of several lengths; give one of them a fixed length")]
-    Contexts,
-    /// The automaton of the rules is too large.
-    #[error("{0}")]
-    Automaton(BuildFault),
-    /// A file can't be read.
-    #[error("cannot read {0}")]
-    NotRead(&'a str),
-    /// No files can be made here.
-    #[error("-t is wanted here, since no files are made")]
-    NoTargets,
-    /// The output can't be written.
-    #[error("cannot write")]
-    Output,
-    /// An allocation failed.
-    #[error("out of memory")]
-    Memory,
-}
-
-impl ScannerFault<'_> {
-    fn status(&self) -> u8
-        ensures some { 0 < result }
-        ensures known { result ≤ 5 }
-    {
-        match self {
-            ScannerFault::Faults | ScannerFault::Contexts | ScannerFault::Automaton(_) => 1,
-            ScannerFault::Flags(_)
-            | ScannerFault::Overwrites(_)
-            | ScannerFault::OddName
-            | ScannerFault::NoTargets => 2,
-            ScannerFault::NotRead(_) => 3,
-            ScannerFault::Output => 4,
-            ScannerFault::Memory => 5,
-        }
-    }
-}
-
-impl From<AllocError> for ScannerFault<'_> {
-    fn from(_error: AllocError) -> Self {
-        ScannerFault::Memory
-    }
-}
-
-impl<T: Drop> From<AllocFailed<T>> for ScannerFault<'_> {
-    fn from(_error: AllocFailed<T>) -> Self {
-        ScannerFault::Memory
-    }
-}
-
-impl From<TargetFault> for ScannerFault<'_> {
-    fn from(fault: TargetFault) -> Self {
-        match fault {
-            TargetFault::NotServed => ScannerFault::NoTargets,
-            TargetFault::NotWritten => ScannerFault::Output,
-            TargetFault::Memory => ScannerFault::Memory,
-        }
-    }
-}
-
-impl<'a> From<FlagFault<'a>> for ScannerFault<'a> {
-    fn from(fault: FlagFault<'a>) -> Self {
-        match fault {
-            FlagFault::Memory => ScannerFault::Memory,
-            _ => ScannerFault::Flags(fault),
-        }
-    }
-}
-
-impl From<BuildFault> for ScannerFault<'_> {
-    fn from(fault: BuildFault) -> Self {
-        match fault {
-            BuildFault::Memory => ScannerFault::Memory,
-            _ => ScannerFault::Automaton(fault),
-        }
-    }
+    pub(crate) words: &'a [String],
 }
 
 // Returns true for the name of `lex`, false for that of `flex`.
-fn is_posix(name: &str) -> Option<bool> {
-    if name == "lex" {
+fn is_posix(name: &[u8]) -> Option<bool>
+    ensures { result ≡ command_named name.now }
+{
+    if name == b"lex".as_slice() {
         return Some(true);
     }
-    if name == "flex" { Some(false) } else { None }
+    if name == b"flex".as_slice() {
+        return Some(false);
+    }
+    None
 }
 
 // Returns the name of a program without its folder.
-fn name_in_folder(path: &str) -> &str {
-    match path.rfind('/') {
-        Some(at) => path.get(at.saturating_add(1)..).unwrap_or(path),
-        None => path,
+fn name_in_folder(path: &[u8]) -> &[u8]
+    ensures { result.now ≡ part_after path.now path.now }
+{
+    let mut name = path;
+    for place in 0..path.len() {
+        if path[place] == b'/' {
+            name = &path[place + 1..];
+        }
     }
+    name
 }
 
 /// Returns the words for `lex` or `flex`, if this is the program's name or its command.
-pub fn scanner_words(words: &[String]) -> Option<ScannerWords<'_>> {
+pub(crate) fn scanner_words(words: &[String]) -> Option<ScannerWords<'_>>
+    ensures { option_map (λ w. w.posix) result ≡ scanner_asked (words_of words.now) }
+{
     let (program, rest) = words.split_first()?;
-    if let Some(posix) = is_posix(name_in_folder(program.as_str())) {
+    if let Some(posix) = is_posix(name_in_folder(program.as_bytes())) {
         return Some(ScannerWords { posix, words: rest });
     }
     let (command, rest) = rest.split_first()?;
-    let posix = is_posix(command.as_str())?;
+    let posix = is_posix(command.as_bytes())?;
     Some(ScannerWords { posix, words: rest })
-}
-
-/// The text of all files, one after the other.
-#[derive(Drop)]
-struct WholeText {
-    text: Vec<u8>,
-    /// Names of the files, as bytes.
-    names: Vec<Vec<u8>>,
-    /// Line of the text on which each file begins.
-    first_lines: Vec<u32>,
-}
-
-fn lines_in(text: &[u8]) -> u32 {
-    let mut lines: u32 = 0;
-    for byte in text {
-        if *byte == b'\n' {
-            lines = lines.saturating_add(1);
-        }
-    }
-    lines
-}
-
-// Adds a file to the text. A last line without its end gets one, so that the next file begins on a new line.
-fn add_file<'a, S: Sources>(
-    alloc: Global,
-    sources: &mut S,
-    name: &'a str,
-    whole: &mut WholeText,
-) -> Result<(), ScannerFault<'a>> {
-    let input = match sources.read(alloc, name) {
-        Ok(input) => input,
-        Err(SourceFault::NotRead) => return Err(ScannerFault::NotRead(name)),
-        Err(SourceFault::Memory) => return Err(ScannerFault::Memory),
-    };
-    if input.cut {
-        return Err(ScannerFault::NotRead(name));
-    }
-    if let Some(last) = whole.text.last() {
-        if *last != b'\n' {
-            whole.text.push(b'\n')?;
-        }
-    }
-    whole
-        .first_lines
-        .push(lines_in(whole.text.as_slice()).saturating_add(1))?;
-    whole.text.extend_from_slice(input.bytes.as_slice())?;
-    let shown = if name == STANDARD_INPUT {
-        "<stdin>"
-    } else {
-        name
-    };
-    whole.names.push(name_bytes(alloc, shown)?)?;
-    Ok(())
-}
-
-// Reads the files, or standard input if there are none.
-fn read_whole_text<'a, S: Sources>(
-    alloc: Global,
-    sources: &mut S,
-    files: &[&'a str],
-) -> Result<WholeText, ScannerFault<'a>> {
-    let mut whole = WholeText {
-        text: Vec::new(alloc),
-        names: Vec::new(alloc),
-        first_lines: Vec::new(alloc),
-    };
-    for name in files {
-        add_file(alloc, sources, name, &mut whole)?;
-    }
-    if files.is_empty() {
-        add_file(alloc, sources, STANDARD_INPUT, &mut whole)?;
-    }
-    Ok(whole)
-}
-
-fn source_names<'w>(
-    alloc: Global,
-    names: &'w [Vec<u8>],
-    first_lines: &[u32],
-) -> Result<Vec<SourceName<'w>>, AllocError> {
-    let mut list = Vec::new(alloc);
-    let mut place: usize = 0;
-    for name in names {
-        let first_line = first_lines.get(place).copied().unwrap_or(1);
-        place = place.saturating_add(1);
-        list.push(SourceName {
-            name: name.as_slice(),
-            first_line,
-        })?;
-    }
-    Ok(list)
-}
-
-// Appends a line for a fault of the file: its place, and what to do.
-fn push_fault(
-    notes: &mut Vec<u8>,
-    names: &[SourceName<'_>],
-    report: &ImportReport,
-) -> Result<(), AllocError> {
-    let (name, line) = place_in(names, report.place.line);
-    notes.extend_from_slice(name)?;
-    let weight = if report.fatal { "error" } else { "warning" };
-    let written = if report.place.line == 0 {
-        writeln!(notes, ": {weight}: {}", report.cause)
-    } else {
-        writeln!(
-            notes,
-            ":{line}:{}: {weight}: {}",
-            report.place.column, report.cause
-        )
-    };
-    // a write to a list fails only for lack of memory
-    written.map_err(|_| AllocError)
-}
-
-fn push_faults(
-    notes: &mut Vec<u8>,
-    names: &[SourceName<'_>],
-    reports: &[ImportReport],
-) -> Result<(), AllocError> {
-    for report in reports {
-        push_fault(notes, names, report)?;
-    }
-    Ok(())
-}
-
-// Reads the text as a file for lex or flex, or writes its faults to `notes`.
-fn file_of<'a, 't>(
-    alloc: Global,
-    text: &'t [u8],
-    options: FlexOptions,
-    names: &[SourceName<'_>],
-    notes: &mut Vec<u8>,
-) -> Result<FlexFile<'t>, ScannerFault<'a>> {
-    match read_file(alloc, text, options) {
-        Ok(file) => Ok(file),
-        Err(ImportFault::Refused(reports)) => {
-            push_faults(notes, names, reports.as_slice())?;
-            Err(ScannerFault::Faults)
-        }
-        Err(ImportFault::Memory) => Err(ScannerFault::Memory),
-    }
-}
-
-// Writes what a scanner can't do yet to `notes`. Returns true if there is nothing of the kind.
-fn is_supported(
-    outline: &FileOutline<'_>,
-    names: &[SourceName<'_>],
-    notes: &mut Vec<u8>,
-) -> Result<bool, AllocError> {
-    let mut supported = true;
-    for rule in outline.rules.as_slice() {
-        if outline.rule_has(rule, b"REJECT") {
-            supported = false;
-            push_fault(
-                notes,
-                names,
-                &ImportReport {
-                    place: rule.place,
-                    cause: ImportCause::RejectInScanner,
-                    fatal: true,
-                },
-            )?;
-        }
-    }
-    Ok(supported)
 }
 
 /// The names of the files that are written. Without a name, the scanner goes to standard output.
@@ -416,18 +164,14 @@ fn judge_outputs<'a, T: Targets>(
 }
 
 // Writes what `-v` asks for to `notes`.
-fn push_summary(
-    notes: &mut Vec<u8>,
-    outline: &FileOutline<'_>,
-    tables: &Tables,
-) -> Result<(), AllocError> {
+fn push_summary(notes: &mut Vec<u8>, made: &MadeScanner<'_>) -> Result<(), AllocError> {
     let written = writeln!(
         notes,
         "lx: {} rules, {} start conditions, {} states, {} classes of bytes",
-        tables.rules(),
-        outline.declared.conditions.len(),
-        tables.states(),
-        tables.classes()
+        made.tables.rules(),
+        made.outline.declared.conditions.len(),
+        made.tables.states(),
+        made.tables.classes()
     );
     // a write to a list fails only for lack of memory
     written.map_err(|_| AllocError)
@@ -475,8 +219,12 @@ fn place_named<'a, T: Targets>(
     }
 }
 
-// Returns the answer to `--help` or `--version`.
-fn answer_of(alloc: Global, answer: FlexAnswer, posix: bool) -> Result<Vec<u8>, AllocError>
+/// Returns the answer to `--help` or `--version`.
+pub(crate) fn answer_of(
+    alloc: Global,
+    answer: FlexAnswer,
+    posix: bool,
+) -> Result<Vec<u8>, AllocError>
     ensures { IfOk result (λ text. IsAnswer posix text.items) }
 {
     match answer {
@@ -490,60 +238,27 @@ fn answer_of(alloc: Global, answer: FlexAnswer, posix: bool) -> Result<Vec<u8>, 
     }
 }
 
-// Makes the tables of a specification.
-fn tables_of<'a>(alloc: Global, spec: &Spec) -> Result<Tables, ScannerFault<'a>>
-    ensures { IfOk result (λ tables. AreTablesOf (spec_view spec.now) tables) }
-{
-    let automaton = build_merged(alloc, spec)?;
-    Ok(Tables::unjoined_of(alloc, spec, &automaton)?)
-}
-
-// Makes the tables that find the ends of tokens with trailing context of several lengths, if there are such rules.
-fn cut_tables_of<'a>(
-    alloc: Global,
-    outline: &FileOutline<'_>,
-    rules: &[FlexRule],
-) -> Result<Option<Tables>, ScannerFault<'a>> {
-    if !outline.has_varying_cut() {
-        return Ok(None);
-    }
-    match cut_specification_of(alloc, rules)? {
-        Some(spec) => Ok(Some(tables_of(alloc, &spec)?)),
-        None => Err(ScannerFault::Contexts),
-    }
-}
-
-// Makes the specification of rules.
-fn specification_for<'a>(
-    alloc: Global,
-    conditions: Vec<Condition>,
-    rules: Vec<FlexRule>,
-) -> Result<Spec, ScannerFault<'a>>
-    ensures { IfOk result (λ spec. HasFileRules (spec_view spec)) }
-{
-    match specification_of(alloc, conditions, rules)? {
-        Some(spec) => Ok(spec),
-        None => Err(ScannerFault::Faults),
-    }
-}
-
 // Returns the scanner as a text. Writes what `-v` asks for to `notes`.
 fn scanner_text<'a, 's>(
     alloc: Global,
-    outline: &FileOutline<'s>,
-    spec: &Spec,
-    cut_tables: Option<&Tables>,
+    made: &MadeScanner<'s>,
     options: PrintOptions<'s>,
     notes: &mut Vec<u8>,
 ) -> Result<Vec<u8>, ScannerFault<'a>>
-    requires { HasFileRules (spec_view spec.now) }
+    requires rules { IsMade (spec_view made.now.spec) made.now.cut_tables }
+    requires tables { AreTablesOf (spec_view made.now.spec) made.now.tables }
     ensures { IfOk result (λ text. IsScanner text.items) }
 {
-    let tables = tables_of(alloc, spec)?;
-    if outline.declared.options.is_on(b"verbose") {
-        push_summary(notes, outline, &tables)?;
+    if made.outline.declared.options.is_on(b"verbose") {
+        push_summary(notes, made)?;
     }
-    Ok(scanner_of(alloc, outline, &tables, cut_tables, options)?)
+    Ok(scanner_of(
+        alloc,
+        &made.outline,
+        &made.tables,
+        made.cut_tables.as_ref(),
+        options,
+    )?)
 }
 
 // Writes the scanner, and its header if that has a name.
@@ -563,14 +278,21 @@ fn write_outputs<'a, T: Targets, O: Write>(
     place_named(header_name, header, targets)
 }
 
-// Prints the scanner of a file and its header.
+/// Words of the command line about outputs, and the files that these may not be.
+#[derive(Clone, Copy)]
+struct OutputWords<'w, 'a> {
+    files: &'w [&'a str],
+    macros: &'w [&'w str],
+    header: bool,
+}
+
+// Prints the scanner of a file and its header. Writes its faults and warnings to `notes`.
 fn print_file<'a, T: Targets, O: Write>(
     alloc: Global,
     file: FlexFile<'_>,
-    files: &[&'a str],
-    names: &[SourceName<'_>],
-    macros: &[&str],
-    wants_header: bool,
+    reports: Reports,
+    source: NamedText<'_>,
+    words: OutputWords<'_, 'a>,
     targets: &mut T,
     notes: &mut Vec<u8>,
     out: &mut O,
@@ -578,24 +300,21 @@ fn print_file<'a, T: Targets, O: Write>(
     ensures { OnOk result (IsScannerPrinted T.places targets.old targets.new
         (O.contents out.old) (O.contents out.new)) }
 {
-    let conditions = conditions_of(alloc, &file.declared)?;
-    let (outline, rules) = split(alloc, file)?;
-    let written = output_names(alloc, &outline.declared.options, wants_header)?;
+    let written = output_names(alloc, &file.declared.options, words.header)?;
     let scanner_name = name_text(&written.scanner)?;
     let header_name = name_text(&written.header)?;
-    judge_outputs(targets, scanner_name, header_name, files)?;
-    if !is_supported(&outline, names, notes)? {
-        return Err(ScannerFault::Faults);
-    }
-    let cut_tables = cut_tables_of(alloc, &outline, rules.as_slice())?;
-    let spec = specification_for(alloc, conditions, rules)?;
+    judge_outputs(targets, scanner_name, header_name, words.files)?;
+    let mut reports = reports;
+    let made = made_of(alloc, file, &mut reports);
+    push_reports(alloc, notes, source, &reports, false)?;
+    let made = made?;
     let options = PrintOptions {
-        sources: names,
+        sources: source.names,
         printed: scanner_name.unwrap_or("<stdout>").as_bytes(),
-        macros,
+        macros: words.macros,
     };
-    let scanner = scanner_text(alloc, &outline, &spec, cut_tables.as_ref(), options, notes)?;
-    let header = header_of(alloc, &outline, options)?;
+    let scanner = scanner_text(alloc, &made, options, notes)?;
+    let header = header_of(alloc, &made.outline, options)?;
     write_outputs(
         scanner_name,
         scanner.as_slice(),
@@ -624,42 +343,42 @@ fn make_scanner<'a, S: Sources, T: Targets, O: Write>(
         macros,
         header,
         told,
-    } = read_command(alloc, words.words, words.posix)?;
+    } = read_command(alloc, words.words, words.posix || sources.is_posix())?;
     if let Some(answer) = told {
         let text = answer_of(alloc, answer, words.posix)?;
         return write_all(out, text.as_slice());
     }
     let whole = read_whole_text(alloc, sources, files.as_slice())?;
-    let names = source_names(alloc, whole.names.as_slice(), whole.first_lines.as_slice())?;
-    let file = file_of(
-        alloc,
-        whole.text.as_slice(),
-        options,
-        names.as_slice(),
-        notes,
-    )?;
-    print_file(
-        alloc,
-        file,
-        files.as_slice(),
-        names.as_slice(),
-        macros.as_slice(),
+    let names = source_names(alloc, &whole)?;
+    let source = NamedText {
+        text: whole.text.as_slice(),
+        names: names.as_slice(),
+    };
+    let (file, reports) = read_file(alloc, source.text, options)?;
+    let Some(file) = file else {
+        push_reports(alloc, notes, source, &reports, false)?;
+        return Err(ScannerFault::Faults);
+    };
+    let words = OutputWords {
+        files: files.as_slice(),
+        macros: macros.as_slice(),
         header,
-        targets,
-        notes,
-        out,
-    )
+    };
+    print_file(alloc, file, reports, source, words, targets, notes, out)
 }
 
-// Reports why no scanner was printed.
-fn report<S: Sources, T: Targets, E: Write>(
+/// Reports why no scanner was printed.
+pub(crate) fn report<S: Sources, T: Targets, E: Write>(
     fault: &ScannerFault<'_>,
     notes: &[u8],
     sources: &S,
     targets: &T,
     err: &mut E,
 ) {
-    let _ = err.write_all(notes);
+    // without memory, notes may be cut short
+    if !matches!(fault, ScannerFault::Memory) {
+        let _ = err.write_all(notes);
+    }
     let _ = writeln!(err, "lx: {fault}");
     match fault {
         ScannerFault::NotRead(_) => {
@@ -680,7 +399,7 @@ fn report<S: Sources, T: Targets, E: Write>(
 /// - 3: a file can't be read;
 /// - 4: the output failed;
 /// - 5: memory is exhausted.
-pub fn print_scanner<S: Sources, T: Targets, O: Write + Output, E: Write>(
+pub(crate) fn print_scanner<S: Sources, T: Targets, O: Write + Output, E: Write>(
     alloc: Global,
     words: ScannerWords<'_>,
     sources: &mut S,
@@ -691,6 +410,8 @@ pub fn print_scanner<S: Sources, T: Targets, O: Write + Output, E: Write>(
     ensures known { result ≤ 5 }
     ensures done { result ≡ 0 → IsDone T.places words.entry.posix targets.old targets.new (O.contents out.old)
         (O.contents out.new) }
+    // Nothing is still buffered in the program.
+    ensures sent { result ≡ 0 → O.sent out.new }
 {
     let mut notes = Vec::new(alloc);
     let made = make_scanner(alloc, words, sources, targets, &mut notes, out);

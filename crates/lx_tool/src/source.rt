@@ -69,6 +69,11 @@ pub trait Sources {
         None
     }
 
+    /// Returns true if `flex` has to read patterns as `lex` does, as where the environment has POSIXLY_CORRECT. By default returns false.
+    fn is_posix(&self) -> bool {
+        false
+    }
+
     /// Returns the reason why a file was cut short, if it is known. Files that were cut short are counted from 0, in the order in which they were
     /// read.
     fn cut_reason(&self, _number: usize) -> Option<io::Error> {

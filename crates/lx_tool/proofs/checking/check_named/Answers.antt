@@ -3,12 +3,18 @@ use Rattle.std.specs.Io.KnownBytes.{Appends}
 use Rattle.std.specs.Prelude.{OnOk}
 use Rattle.std.proofs.lemmas.Result.{err_from_is_err_and, on_ok_weaker}
 use Rattle.lx_cli.specs.CommandLine.{plain_check}
-use Rattle.lx_tool.proofs.Obeyed.{check_refused, keeps_itself, warning_refused}
+use Rattle.lx_tool.proofs.Obeyed.{check_refused, flex_refused, keeps_itself, warning_refused}
 use Rattle.lx_tool.proofs.checking.check_named.Goals as goal
+
+pub returns-in_err-judge_flex-clause-err : goal.returns-in_err-judge_flex-clause-err
+returns-in_err-judge_flex-clause-err g c =
+    let p = err_from_is_err_and c.from_residual.result c.from_residual.ensures.1 in
+    let held = g.O.Write.contents c.args.out.now in
+    rw (p.1, p.2) (flex_refused g.S.Sources.gives c.args.sources.now held held (plain_check c.args.words.now) (keeps_itself held) c.in_err-judge_flex.field-0.0 c.in_err-judge_flex.ensures.err)
 
 pub returns-in_err-warnings-clause-err : goal.returns-in_err-warnings-clause-err
 returns-in_err-warnings-clause-err g c =
-    let p = err_from_is_err_and c.from_residual.result c.from_residual.ensures.1 in
+    let p = err_from_is_err_and c.from_residual-in_err-warnings.result c.from_residual-in_err-warnings.ensures.1 in
     let held = g.O.Write.contents c.args.out.now in
     rw (p.1, p.2) (warning_refused g.S.Sources.gives c.args.sources.now held held (plain_check c.args.words.now) (keeps_itself held) c.in_err-warnings.field-0.0 c.in_err-warnings.ensures.err)
 
@@ -25,6 +31,7 @@ returns-clause-ok g c =
     on_ok_weaker c.write_text.result
     (λ h. (
       record {
+        plain = c.in_ok-judge_flex.ensures.ok;
         text = c.in_ok-text.text.items;
         given = c.in_ok-text.ensures.ok;
         accepted = rw c.deref.ensures.value at c.in_ok-said.ensures.ok;

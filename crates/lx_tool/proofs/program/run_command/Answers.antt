@@ -6,7 +6,7 @@ use Rattle.lx_tool.specs.Sources.{texts_of}
 use Rattle.lx_tool.specs.Helping.{AskForHelp}
 use Rattle.lx_tool.proofs.Helped.{at_status_0}
 use Rattle.lx_tool.proofs.Obeyed.{has_done, has_ended, said_err, said_ok, sent_as_well, sent_err, sent_ok, sent_on}
-use Rattle.lx_tool.proofs.program.run_with.Goals as goal
+use Rattle.lx_tool.proofs.program.run_command.Goals as goal
 
 pub returns-clause-ended : goal.returns-clause-ended
 returns-clause-ended g c =
