@@ -43,6 +43,7 @@ complete -c lx -n '__fish_seen_subcommand_from run' -l first -x -d 'The number o
 complete -c lx -n '__fish_seen_subcommand_from run' -l files-from -r -F -d 'A file that names further files, one a line, behind those that are words'
 complete -c lx -n '__fish_seen_subcommand_from run' -s 0 -d 'The names in LIST are separated by bytes 0'
 complete -c lx -n '__fish_seen_subcommand_from run' -s h -l help -d 'Print help'
+complete -c lx -n '__fish_seen_subcommand_from check' -l flex -d 'Checks files for flex; comes first, and then -q, -W error, and options and files as for lx flex'
 complete -c lx -n '__fish_seen_subcommand_from check' -s q -d 'Prints the findings alone, without lines of the source and counts'
 complete -c lx -n '__fish_seen_subcommand_from check' -s W -x -a 'all error condition-word never-entered unused-definition never-chosen interval lazy letter-escape long-hex many-bytes curly-quotes class-outside wide-range dead-statement skipped-rule skipped-line far-ahead unread-bytes no-condition-word no-never-entered no-unused-definition no-never-chosen no-interval no-lazy no-letter-escape no-long-hex no-many-bytes no-curly-quotes no-class-outside no-wide-range no-dead-statement no-skipped-rule no-skipped-line no-far-ahead no-unread-bytes' -d 'Switches a warning on, or off as no-NAME; all stands for each, and with error they are errors; lx explain warning lists them'
 complete -c lx -n '__fish_seen_subcommand_from check' -l most -x -d 'How many errors are said, from 1 to 100 [default: 20]'

@@ -14,23 +14,34 @@ MAIN = "%%\nint main(void) { while (yylex() != 0) { } return 0; }\n"
 WORDS = "%option noyywrap\n%%\n[a-z]+ printf(\"<%s>\", yytext);\n[0-9]+ return 1;\n" + MAIN
 # Options, and words that a scanner with them is tried with.
 VARIANTS = [("", []), ("yylineno stack", []), ("array yylineno", []), ("debug", []), ("case-insensitive", []), ("prefix=\"foo\"", []),
-            ("nounput noinput nodefault", []), ("read", []), ("always-interactive", []), ("never-interactive", []), ("", ["-L"]), ("", ["-Cf"]), ("", ["-D", "A=1"])]
+            ("nounput noinput nodefault nowarn", []), ("read", []), ("always-interactive", []), ("never-interactive", []), ("", ["-L"]), ("", ["-Cf"]), ("", ["-D", "A=1"])]
 # Files, their texts and what their scanners print.
 SCANNERS = [
     ("a word", WORDS, b"ab 12 c\n", b"<ab>  <c>\n"),
     ("trailing context of a fixed length", "%option noyywrap\n%%\n[a-z]+/\"=\" printf(\"[%s]\", yytext);\n" + MAIN, b"ab=ab", b"[ab]=ab"),
     ("a token of a fixed length", "%option noyywrap\n%%\nab/c* printf(\"[%s]\", yytext);\n" + MAIN, b"abcc", b"[ab]cc"),
-    ("two lengths that vary", "%option noyywrap\n%%\nzx*/xy* printf(\"[%s]\", yytext);\n" + MAIN, b"zxx", b"[zx]x"),
+    ("two lengths that vary", "%option noyywrap nowarn\n%%\nzx*/xy* printf(\"[%s]\", yytext);\n" + MAIN, b"zxx", b"[zx]x"),
     ("the end of a line", "%option noyywrap\n%%\na$ printf(\"[%s]\", yytext);\n" + MAIN, b"aa\na", b"a[a]\na"),
     ("the start of a line", "%option noyywrap\n%%\n^a printf(\"[%s]\", yytext);\n" + MAIN, b"aa\na", b"[a]a\n[a]"),
     ("conditions", "%option noyywrap\n%x QUOTED\n%%\n\\\" BEGIN(QUOTED);\n<QUOTED>{\n\\\" BEGIN 0;\n[a-z]+ printf(\"(%s)\", yytext);\n}\n<<EOF>> { printf(\"end\"); yyterminate(); }\n" + MAIN,
      b"a\"b\"c", b"a(b)cend"),
+    # Names of conditions are macros, which no name of the scanner's own functions may be.
+    ("names of conditions", "%option noyywrap stack\n%s in out size file text bytes length b c i n buffer count base value scanner row place from to\n%%\na { BEGIN(in); }\n<in>b printf(\"[%d]\", in);\n" + MAIN,
+     b"ab", b"[1]"),
     ("an action of the next rule", "%option noyywrap\n%%\na |\nb printf(\"[%s]\", yytext);\n" + MAIN, b"abc", b"[a][b]c"),
     ("yymore and yyless", "%option noyywrap\n%%\na yymore();\nbcd { yyless(yyleng - 1); printf(\"[%s]\", yytext); }\n" + MAIN, b"abcd", b"[abc]d"),
     ("unput and input", "%option noyywrap\n%%\na { int c = input(); unput('z'); printf(\"[%c]\", c); }\n" + MAIN, b"abz", b"[b]zz"),
     ("bytes 0 and 255", "%option noyywrap\n%%\n[\\0\\xff]+ printf(\"[%d]\", (int)yyleng);\n" + MAIN, b"a\0\xff\0b", b"a[3]b"),
     ("code at all places", "%top{\n#include <stddef.h>\n}\n%{\nstatic int made;\n%}\n    /* a comment */\n%option noyywrap\n%%\n    int here = 1;\n%{\n    made += here;\n%}\na {\n    printf(\"%d\", made);\n}\n"
      "%{\n    /* between rules */\n%}\nb printf(\"b\");\n" + MAIN, b"ab", b"1b"),
+    ("an interval of 512", "%option noyywrap\n%%\nx{512} printf(\"[%d]\", (int)yyleng);\n" + MAIN, b"x" * 600, b"[512]" + b"x" * 88),
+    ("an interval from 300 to 700", "%option noyywrap\n%%\nx{300,700} printf(\"[%d]\", (int)yyleng);\n" + MAIN, b"x" * 299 + b"y" + b"x" * 1000, b"x" * 299 + b"y[700][300]"),
+    ("an interval from 200 to 260", "%option noyywrap\n%%\nx{200,260} printf(\"[%d]\", (int)yyleng);\n" + MAIN, b"x" * 261 + b"y" + b"x" * 461, b"[260]xy[260][201]"),
+    ("an interval of 1000 and more", "%option noyywrap\n%%\nx{1000,} printf(\"[%d]\", (int)yyleng);\n" + MAIN, b"x" * 999 + b"y" + b"x" * 1500, b"x" * 999 + b"y[1500]"),
+    ("an interval up to 600", "%option noyywrap\n%%\n(ab){0,600}c printf(\"[%d]\", (int)yyleng);\n" + MAIN, b"c" + b"ab" * 600 + b"c" + b"ab" * 601 + b"c", b"[1][1201]ab[1201]"),
+    ("an interval of a definition", "%option noyywrap\nD [0-9]{256}\n%%\n{D}{2} printf(\"[%d]\", (int)yyleng);\n" + MAIN, b"7" * 513, b"[512]7"),
+    ("a large interval before trailing context", "%option noyywrap\n%%\nx{512}/y* printf(\"[%d]\", (int)yyleng);\n" + MAIN, b"x" * 512 + b"yy", b"[512]yy"),
+    ("a large interval in trailing context", "%option noyywrap nowarn\n%%\nx+/x{300} printf(\"[%d]\", (int)yyleng);\n" + MAIN, b"x" * 305, b"[5]" + b"x" * 300),
 ]
 # Files that are refused, and the first line that says why.
 REFUSED = [
@@ -40,11 +51,16 @@ REFUSED = [
     ("a scanner in C++", "%option c++\n%%\n", "x.l:1:9: error: C++ scanners (%option c++, yyclass) are not supported; a C++ compiler takes the scanner in C, so delete the word"),
     ("an unknown condition", "%%\n<A>a ;\n", "x.l:2:2: error: the start condition isn't declared; declare it with %s or %x"),
     ("an open action", "%%\na {\n", "x.l:2:3: error: a comment, a code block, a scope or an action isn't closed; close it"),
+    ("a bound that is too large", "%%\na{16384} ;\n", "x.l:2:1: error: the pattern: a bound of an interval is above 16383; write another one"),
+    ("bounds in the wrong order", "%%\na{700,300} ;\n", "x.l:2:1: error: the pattern: the bounds of an interval are none that flex takes; write another one"),
+    ("a large interval of a long expression", "%%\n(" + "ab" * 300 + "){256,} ;\n", "x.l:2:1: error: the pattern: the pattern is too long or too deep; write another one"),
     ("a pattern", "%%\na(b ;\n", "x.l:2:1: error: the pattern: a group, quotes or brackets aren't closed; write another one"),
 ]
 HOSTILE = [("parentheses", b"%%\n" + b"(" * 1_000_000), ("braces", b"%%\na {" + b"{" * 1_000_000), ("an open action", b"%%\na { /* " + b"x\n" * 400_000),
            ("bytes 0", b"%%\n" + b"\0" * 1_000_000), ("carriage returns", b"%%\r\na ;\r\n" * 100_000), ("lists", b"%%\n<" * 200_000), ("names", b"a " * 400_000),
-           ("quotes", b"%%\n\"" + b"a" * 1_000_000), ("brackets", b"%%\n" + b"[a" * 500_000)]
+           ("quotes", b"%%\n\"" + b"a" * 1_000_000), ("brackets", b"%%\n" + b"[a" * 500_000),
+           ("an interval of an interval", b"%%\n(x{4000}){4000} ;\n"), ("intervals of intervals", b"%%\nx" + b"{300}" * 800 + b" ;\n"), ("blocks of blocks", b"%%\nx" + b"{256}" * 800 + b" ;\n"),
+           ("the largest interval", b"%%\nx{0,16383} ;\n"), ("large intervals", b"%%\n" + b"x{16383}" * 400 + b" ;\n")]
 
 
 class FlexScanners(Case):
@@ -147,6 +163,11 @@ class FlexScanners(Case):
             self.expect(f"{command}: status", self.flex("x.l", command=command).returncode, 0)
             given = b"abbaabb"[:3] + b"aabb" if command == "flex" else b"ababb"
             self.expect(command, support.run(self.compiled(compiler, "-std=c99"), input=given).stdout, wanted)
+        self.write("%option noyywrap\n%%\nab{300} printf(\"[%d]\", (int)yyleng);\n" + MAIN)
+        for command, wanted in [("flex", b"[301]"), ("lex", b"[600]")]:
+            self.expect(f"{command}, a large interval: status", self.flex("x.l", command=command).returncode, 0)
+            given = b"a" + b"b" * 300 if command == "flex" else b"ab" * 300
+            self.expect(f"{command}, a large interval", support.run(self.compiled(compiler, "-std=c99"), input=given).stdout, wanted)
 
     def test_hostile(self):
         for name, text in HOSTILE:

@@ -50,6 +50,26 @@ ab{2} { count++; return ID; }
 <<EOF>> yyterminate();
 }
 """
+SCANNER = """\
+%option yylineno stack prefix="zz"
+%{
+int count;
+%}
+D [0-9]
+%x STR
+%%
+    int here = 0;
+^{D}+ { count += here; return 1; }
+zx*/xy* yymore();
+a{2}/b |
+[a-z]+$ ECHO;
+<STR>{
+\\" BEGIN(INITIAL);
+<<EOF>> yyterminate();
+}
+%%
+int main(void) { return yylex(); }
+"""
 THREE_RULES_FIRST = """\
 lx-tables 1
 conditions 1
@@ -115,7 +135,7 @@ REFUSED = {
     "E21": "%%\na |\n",
     "E30": "%%\n(a{128}){128}|b ;\n",
 }
-FILES = {"flex": FLEX, "no-flex": "%%\na/b ;\nc REJECT;\n", "first.tables": THREE_RULES_FIRST, "a": "a", "empty": "", "lines": "1\n2", "names": "a\nlines\n"}
+FILES = {"flex": FLEX, "scanner.l": SCANNER, "no-scanner.l": "%option what\n%%\n<A>a ;\nb(c ;\n", "warned.l": "%option nodefault\n%%\n[a-z]+ ;\nif ;\nx*/y ;\nab{2} ;\n", "no-flex": "%%\na/b ;\nc REJECT;\n", "first.tables": THREE_RULES_FIRST, "a": "a", "empty": "", "lines": "1\n2", "names": "a\nlines\n"}
 
 SCANS = [["scan", "-j", "1"], ["scan", "-j", "4"]]
 HELP = [[], ["-h"], ["--help"], ["run", "-h"], ["gen", "-h"], ["scan", "-h"], ["up", "-h"]]
@@ -130,6 +150,9 @@ OTHERS = [
     ["check", "E10.l"], ["check", "--json", "E11.l"], ["check", "words.l"],
     ["explain"], ["explain", "E10"], ["show", "words.l"], ["show", "first.tables"], ["show", "E10.l"],
     ["import", "flex"], ["import", "-o", "target", "-c", "actions", "flex"], ["import", "no-flex"], ["import", "--lossy", "no-flex"],
+    ["flex", "-tv", "scanner.l"], ["lex", "-t", "scanner.l", "words.l"], ["flex", "-t", "no-scanner.l"], ["flex", "-o", "scanner.c", "--header-file=scanner.h", "scanner.l"],
+    ["flex", "-t", "warned.l"], ["check", "--flex", "warned.l"], ["check", "--flex", "-q", "no-scanner.l"], ["check", "--flex", "-q", "cut"],
+    ["flex", "--help"], ["flex", "--what"], ["flex", "gone"], ["flex", "cut"],
     ["none"], ["scan"], ["scan", "first.tables"], ["run", "-b", "0", "three-rules.l", "a"], ["gen", "a", "a"], ["scan", "-j", "9", "first.tables", "a"],
     ["run", "three-rules.l", "gone"], ["run", "gone", "a"], ["run", "cut", "a"], ["scan", "a", "a"], ["up", "three-rules.l"], ["up", "gone"],
 ]  # fmt: skip
@@ -359,6 +382,19 @@ class RefuseMemory(Case):
         with concurrent.futures.ProcessPoolExecutor(OPTIONS.jobs) as pool:
             refused = sum(self.try_one(pool, trial) for trial in chosen)
         print(f"{refused} runs with memory refused")
+
+    def test_scanners_are_whole(self):
+        if OPTIONS.only:
+            self.skipTest("--only names other cases")
+        made = self.folder / "made.c"
+        words = (support.built(), "flex", "-o", made.name, "scanner.l")
+        requests = requests_of(words, self.folder, self.library)
+        whole = made.read_bytes()
+        for number in range(1, requests + 1, max(1, requests // 100)):
+            made.unlink(missing_ok=True)
+            ended = run(words, self.folder, LD_PRELOAD=str(self.library), REFUSE_FROM=str(number))
+            found = made.read_bytes() if made.exists() else None
+            self.check(f"the file at request {number}", ended and found == (whole if ended.status == 0 else None), f"{ended}")
 
     def test_memory_is_used_again(self):
         if OPTIONS.only:
