@@ -195,22 +195,22 @@ steps_push spec rules leaves reps old new targets state class t F have hc source
 }
 
 -- the sets of the table and one more, as lists
-lists_with : List Positions → List ℕ → List (List ℕ)
+pub lists_with : List Positions → List ℕ → List (List ℕ)
 lists_with [] set = set ∷ []
 lists_with (x ∷ xs) set = x.items ∷ lists_with xs set
 
-lists_length : (xs : List Positions) (set : List ℕ) → length (lists_with xs set) ≡ length xs + 1
+pub lists_length : (xs : List Positions) (set : List ℕ) → length (lists_with xs set) ≡ length xs + 1
 unfolding lists_with
 lists_length [] set = refl
 lists_length (x ∷ xs) set = let e = lists_length xs set in omega arith
 
-lists_at : (xs : List Positions) (set : List ℕ) (i : ℕ) → i < length xs → get_or (lists_with xs set) i [] ≡ set_of xs i
+pub lists_at : (xs : List Positions) (set : List ℕ) (i : ℕ) → i < length xs → get_or (lists_with xs set) i [] ≡ set_of xs i
 unfolding lists_with
 lists_at [] set i h = absurd (omega arith)
 lists_at (x ∷ xs) set zero h = refl
 lists_at (x ∷ xs) set (suc i) h = lists_at xs set i (omega arith)
 
-lists_last : (xs : List Positions) (set : List ℕ) → get_or (lists_with xs set) (length xs) [] ≡ set
+pub lists_last : (xs : List Positions) (set : List ℕ) → get_or (lists_with xs set) (length xs) [] ≡ set
 unfolding lists_with
 lists_last [] set = refl
 lists_last (x ∷ xs) set = lists_last xs set

@@ -197,7 +197,7 @@ module _ (spec : PlainSpec) (sound : HasSoundPatterns spec) where
         plain = (numbered_rules spec (simplified_pattern spec.definitions)).rule_of i r at
 
     -- the rules with such a fit are those that the position set matches
-    reached_matched : (S : List ℕ) → IsSetOf spec (numbered (simplified_pattern spec.definitions) 0 spec.rules) (record { condition = c; begin = begin; word = w }) S → (i : ℕ) →
+    pub reached_matched : (S : List ℕ) → IsSetOf spec (numbered (simplified_pattern spec.definitions) 0 spec.rules) (record { condition = c; begin = begin; word = w }) S → (i : ℕ) →
         ReachesWhole spec c begin w i ↔ IsMatchedBy (numbered (simplified_pattern spec.definitions) 0 spec.rules) S i
     reached_matched S is i = (
       (λ h.

@@ -7,6 +7,7 @@ use Rattle.lx_auto.specs.Members.{has_member, places_from}
 use Rattle.lx_auto.specs.Marking.{flag}
 use Rattle.lx_auto.specs.PositionSets.{NumberedRule}
 use Rattle.lx_auto.specs.RuleParts.{ArePartsOf}
+use Rattle.lx_auto.specs.RuleLists.{AreMatchedAt, AreMatchedBy}
 use Rattle.lx_auto.specs.SetSteps.{IsMatchedBy}
 use Rattle.lx_auto.specs.Sets.{AreFollowing, AreFirst, IsEarliestMatched}
 use Rattle.lx_auto.specs.Following.{FollowsMarked, BeginsWith, AreReadBelow, IsMatchedAt, IsFirstMatchedBelow}
@@ -61,7 +62,7 @@ module _ (S : List ℕ) (total : ℕ) (marks : List Bool) (are : AreMarksOf S to
       );
     }
 
-    matched_is : (j : ℕ) → IsMatchedAt rules marks j ↔ IsMatchedBy rules S j
+    pub matched_is : (j : ℕ) → IsMatchedAt rules marks j ↔ IsMatchedBy rules S j
     matched_is j = (
       (λ h. record { rule = h.rule; at = h.at; last = h.ends.0; within = marked_in h.ends.0 h.ends.1; final = h.ends.2 }),
       (λ h. let range = final_in h.rule h.last h.final in
@@ -72,6 +73,16 @@ module _ (S : List ℕ) (total : ℕ) (marks : List Bool) (are : AreMarksOf S to
     pub earliest : (found : Option ℕ) → IsFirstMatchedBelow rules marks (length rules) found → IsEarliestMatched rules S found
     earliest None none = λ j h. none j (below_length j h.rule h.at) ((matched_is j).1 h)
     earliest (Some i) some = ((matched_is i).0 some.1, λ j l h. some.2 j l ((matched_is j).1 h))
+
+    -- the list of all rules that have matched
+    pub all_matched : (found : List ℕ) → AreMatchedAt rules marks (length rules) found → AreMatchedBy rules S found
+    all_matched found so = record {
+      rising = so.rising;
+      each = λ i. (
+        (λ h. (matched_is i).0 ((so.each i).0 h).1),
+        (λ h. (so.each i).1 (below_length i h.rule h.at, (matched_is i).1 h)),
+      );
+    }
 
 -- the firsts of a start
 pub firsts : (spec : PlainSpec) (condition : ℕ) (begin : Bool) (rules : List NumberedRule) (reads : List Bool) →

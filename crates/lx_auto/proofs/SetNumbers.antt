@@ -7,7 +7,7 @@ use Rattle.std.specs.HashMap.{get, get_by}
 use Rattle.lx_auto.specs.SetTable.{Positions, words_of, set_of, Numbers, same, IsNumbering}
 use Rattle.lx_auto.proofs.SetLists.{length_push, set_of_last, set_of_kept}
 
-get_along : (m : Numbers) (s t : Positions) → s.items ≡ t.items → get same m s ≡ get same m t
+pub get_along : (m : Numbers) (s t : Positions) → s.items ≡ t.items → get same m s ≡ get same m t
 get_along m s t e = ap (λ l. get_by (λ (w : Positions). pointwise nat_eq l w.items) m) e
 
 pub absent : (sets : List Positions) (m : Numbers) (s : Positions) → IsNumbering sets m → get same m s ≡ None → (i : ℕ) → i < length sets → set_of sets i ≢ s.items

@@ -1,5 +1,6 @@
 //! Positions of all rules, and sets of them.
 
+pub(crate) mod all_matched;
 pub(crate) mod bare;
 pub(crate) mod follow;
 pub(crate) mod groups;

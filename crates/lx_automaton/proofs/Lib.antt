@@ -1,6 +1,8 @@
 pub mod ClassRows
 pub mod ClassSteps
 pub mod EncodedLists
+pub mod KeptLists
+pub mod ListAnswers
 pub mod Meeting
 pub mod Members
 pub mod Reordered

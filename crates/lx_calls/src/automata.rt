@@ -4,7 +4,9 @@ ghost use Rattle.std.specs.Prelude.{◌<◌, length};
 
 use crate::rows::three_rules;
 use crate::stop::{Stop, end_of_print, say, say_fault, unless_refused};
-use lx_auto::{Automaton, BuildFault, build, merge};
+use lx_auto::{
+    Automaton, BuildFault, ListAutomaton, ListFault, RuleLists, build, build_lists, merge,
+};
 use lx_fixtures::{THREE_RULES, THREE_RULES_TEXTS, TWO_WORDS, tables_of};
 use lx_scan::{Item, scan};
 use lx_spec::{Code, Rule, Spec, SpecFault, read_spec};
@@ -98,6 +100,40 @@ pub(crate) fn builds(rt: &impl Print, alloc: Global) -> Result<(), Stop> {
     match unless_refused(rt, build_once(rt, alloc, &spec)) {
         Some(ended) => ended,
         None => build_once(rt, alloc, &spec),
+    }
+}
+
+fn print_list(rt: &impl Print, lists: &RuleLists, number: usize) -> Result<(), Stop>
+    requires { number < length lists.now }
+{
+    let list = lists.list(number);
+    end_of_print(println!(rt; "list {number}: {list:?}"))
+}
+
+/// Prints the number of states and lists, and each list.
+fn print_lists(rt: &impl Print, built: &ListAutomaton) -> Result<(), Stop> {
+    let (states, count) = (built.automaton.states(), built.lists.count());
+    end_of_print(println!(rt; "{states} states, {count} lists"))?;
+    for number in 0..count {
+        print_list(rt, &built.lists, number)?;
+    }
+    Ok(())
+}
+
+fn build_lists_once(rt: &impl Print, alloc: Global, spec: &Spec) -> Result<(), Stop> {
+    match build_lists(alloc, spec) {
+        Ok(built) => print_lists(rt, &built),
+        Err(ListFault::Build(BuildFault::Memory)) => Err(Stop::Refused),
+        Err(fault) => say_fault(rt, &fault),
+    }
+}
+
+/// Calls `build_lists` with the three rules.
+pub(crate) fn builds_lists(rt: &impl Print, alloc: Global) -> Result<(), Stop> {
+    let spec = three_rules(alloc)?;
+    match unless_refused(rt, build_lists_once(rt, alloc, &spec)) {
+        Some(ended) => ended,
+        None => build_lists_once(rt, alloc, &spec),
     }
 }
 

@@ -91,8 +91,8 @@ fn is_untouched(part: &RulePart, marks: &[bool], bare: Bare) -> bool
     !part.is_touched(marks)
 }
 
-// Steps one rule. Does nothing if none of its positions is marked.
-fn step_rule(
+/// Steps one rule. Does nothing if none of its positions is marked. Returns true if a marked position ends a word of the rule.
+pub(crate) fn step_rule(
     alloc: Global,
     part: &RulePart,
     marks: &[bool],

@@ -7,7 +7,8 @@ use Rattle.lx_auto.specs.Drafting.{IsDrafted}
 use Rattle.lx_auto.specs.LeafViews.{leaves_view}
 use Rattle.lx_auto.specs.Simplified.{simplified_pattern}
 use Rattle.lx_auto.proofs.AllLedTo.{all_led_to}
-use Rattle.lx_auto.proofs.DraftAnswers.{matched_below, targets_below, draft_machine, draft_answers, state_count_is}
+use Rattle.lx_auto.proofs.DraftAnswers.{matched_below, draft_answers}
+use Rattle.lx_auto.proofs.DraftMachine.{targets_below, draft_machine, state_count_is}
 use Rattle.lx_auto.proofs.MoreSets.{more_reached}
 use Rattle.lx_auto.proofs.NoMoreSets.{no_more}
 use Rattle.lx_auto.proofs.RuleAnswers.{sound_patterns}
@@ -40,7 +41,7 @@ draft_of-requires-clause-sets c =
     let stands = c.in_ok-positions.ensures.stands in
     let states = c.in_ok-explored.ensures.explored (simplified_pattern spec.definitions) stands in
     targets_below spec (leaves_view table.leaves.items) table.groups.classes.items table.groups.representatives.items found.table.sets.items found.matched.items found.targets.items
-    stands.leaves stands.groups states.steps states.matched 16384 c.in_ok-explored.ensures.room
+    stands.groups states.steps states.matched.long 16384 c.in_ok-explored.ensures.room
 
 pub draft_of-requires-clause-machine : goal.draft_of-requires-clause-machine
 draft_of-requires-clause-machine c = λ m drafted.
@@ -54,7 +55,10 @@ draft_of-requires-clause-machine c = λ m drafted.
     let seen = length-map c.args.spec.now.conditions.items condition_view in
     let conditions : c.len.result ≡ length spec.conditions = omega (arith, c.len.ensures) in
     draft_machine spec (leaves_view table.leaves.items) table.groups.classes.items table.groups.representatives.items found.table.sets.items found.matched.items found.targets.items
-    stands.leaves stands.groups states.steps states.matched m (subst (λ n. IsDrafted n table.groups.classes.items (length table.groups.representatives.items) found.matched.items found.targets.items m) conditions drafted) well.some_conditions well.few_conditions well.few_rules c.in_ok-explored.ensures.room
+    stands.groups states.steps states.matched.long m (subst (λ n. IsDrafted n table.groups.classes.items (length table.groups.representatives.items) found.matched.items found.targets.items m) conditions drafted)
+    well.some_conditions well.few_conditions
+    (matched_below spec (leaves_view table.leaves.items) table.groups.classes.items table.groups.representatives.items found.table.sets.items found.matched.items found.targets.items
+    stands.leaves stands.groups states.steps states.matched 4096 well.few_rules) c.in_ok-explored.ensures.room
 
 pub returns-clause-automaton : goal.returns-clause-automaton
 returns-clause-automaton c =
@@ -98,4 +102,4 @@ returns-clause-led_to c =
     all_led_to spec (leaves_view table.leaves.items) table.groups.classes.items table.groups.representatives.items found.table.sets.items found.matched.items found.targets.items c.in_ok-draft.draft
     stands.leaves stands.groups states.steps drafted
     (state_count_is spec (leaves_view table.leaves.items) table.groups.classes.items table.groups.representatives.items found.table.sets.items found.matched.items found.targets.items
-    stands.leaves stands.groups states.steps states.matched c.in_ok-draft.draft drafted)
+    stands.groups states.steps states.matched.long c.in_ok-draft.draft drafted)
