@@ -1,5 +1,5 @@
 use Rattle.lx_piece.specs.Cutting.{IsCutterOf}
-use Rattle.lx_relay_tests.proofs.pieces.ends_behind.Given as goal
+use Rattle.lx_library_tests.proofs.pieces.ends_behind.Given as goal
 
 abbrev pub invariant-loop-piece : goal.invariant-loop-piece
 invariant-loop-piece g l = IsCutterOf l.plan l.cutter
