@@ -1,5 +1,5 @@
 -- The conditions of two lists, one number after the other.
-use Rattle.std.proofs.Common.{ℕ, zero, suc, ◌≡◌, ◌+◌, ◌||◌, Bool, true, false, nat_eq, List, [], ◌∷◌, ◌++◌, refl, sym, ◌∙◌, ap, subst, arith, append-nil}
+use Rattle.std.proofs.Common.{ℕ, zero, suc, ◌≡◌, ◌+◌, ◌||◌, Bool, true, false, nat_eq, List, [], ◌∷◌, ◌++◌, refl, ◌∙◌, ap, arith, append-nil}
 use Rattle.std.specs.Prelude.{filter}
 use Rattle.std.specs.List.{list_any, range_with_len}
 use Rattle.std.proofs.lemmas.List.Elements.{filter-append}
@@ -31,3 +31,10 @@ pub joined_without : (n : ℕ) (one other : List ℕ) → (list_any (λ m. nat_e
 joined_without n one other h =
     let p : ℕ → Bool = λ k. list_any (λ m. nat_eq m k) one || list_any (λ m. nat_eq m k) other in
     more p n ∙ (ap (λ ks. filter p (range_with_len 0 n) ++ ks) (filter-none p n h) ∙ append-nil (filter p (range_with_len 0 n)))
+
+-- one number more of those from 0 on
+pub range_next : (n : ℕ) → range_with_len 0 (n + 1) ≡ range_with_len 0 n ++ n ∷ []
+range_next n =
+    let next : n + 1 ≡ suc n = omega arith in
+    let same : 0 + n ≡ n = omega arith in
+    ap (λ (k : ℕ). range_with_len 0 k) next ∙ (range-more 0 n ∙ ap (λ (k : ℕ). range_with_len 0 n ++ k ∷ []) same)

@@ -1,4 +1,7 @@
 pub mod Activity
+pub mod ConditionLists
 pub mod Imported
 pub mod Lengths
+pub mod RulesSections
+pub mod States
 pub mod views

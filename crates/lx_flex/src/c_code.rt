@@ -1,5 +1,10 @@
 //! Finds the end of C text in a file (flex's manual, "Format of the Input File", "Actions").
 
+ghost use Rattle.std.specs.Prelude.{◌≡◌, OnOk, is_some};
+ghost use Rattle.lx_flex.specs.ConditionLists.{starts};
+ghost use Rattle.lx_flex.specs.RulesSections.{IsFurther};
+ghost use Rattle.lx_flex.specs.States.{left};
+
 use crate::cursor::{TextCursor, TextRange, between, front, place_of, skip};
 use crate::report::{ImportCause, ReadFault, stop};
 
@@ -119,7 +124,9 @@ fn action_length(text: &[u8]) -> Option<usize> {
 }
 
 /// Takes the C text of an action, from here to its end. The next line follows.
-pub(crate) fn take_action(cursor: &mut TextCursor) -> Result<TextRange, ReadFault> {
+pub(crate) fn take_action(cursor: &mut TextCursor) -> Result<TextRange, ReadFault>
+    ensures { OnOk result (IsFurther (left cursor.old) (left cursor.new)) }
+{
     let start = *cursor;
     let Some(length) = action_length(cursor.rest()) else {
         return stop(cursor.place(), ImportCause::NotClosed);
@@ -131,7 +138,9 @@ pub(crate) fn take_action(cursor: &mut TextCursor) -> Result<TextRange, ReadFaul
 }
 
 /// Takes the C text up to `%}`, starting after `%{`. The line after that of `%}` follows.
-pub(crate) fn take_block(cursor: &mut TextCursor) -> Result<TextRange, ReadFault> {
+pub(crate) fn take_block(cursor: &mut TextCursor) -> Result<TextRange, ReadFault>
+    ensures { OnOk result (IsFurther (left cursor.old) (left cursor.new)) }
+{
     let start = *cursor;
     let Some(length) = place_of(cursor.rest(), b"%}") else {
         return stop(cursor.place(), ImportCause::NotClosed);
@@ -143,7 +152,11 @@ pub(crate) fn take_block(cursor: &mut TextCursor) -> Result<TextRange, ReadFault
 }
 
 /// Takes the lines between one that begins with `%{` and one that begins with `%}`. The line after these follows.
-pub(crate) fn take_lines(cursor: &mut TextCursor) -> Result<TextRange, ReadFault> {
+#[tactic(auto, using(crate::proofs::Advancing::further_further))]
+pub(crate) fn take_lines(cursor: &mut TextCursor) -> Result<TextRange, ReadFault>
+    ensures further { OnOk result (IsFurther (left cursor.old) (left cursor.new)) }
+    ensures text { OnOk result (cursor.new.text.now ≡ cursor.old.text.now) }
+{
     let place = cursor.place();
     cursor.skip_line();
     let start = *cursor;
@@ -162,14 +175,19 @@ pub(crate) fn take_lines(cursor: &mut TextCursor) -> Result<TextRange, ReadFault
 }
 
 /// Takes one line with its end.
-pub(crate) fn take_line(cursor: &mut TextCursor) -> TextRange {
+pub(crate) fn take_line(cursor: &mut TextCursor) -> TextRange
+    ensures further { IsFurther (left cursor.old) (left cursor.new) }
+    ensures text { cursor.new.text.now ≡ cursor.old.text.now }
+{
     let start = *cursor;
     cursor.skip_line();
     cursor.since(start)
 }
 
 /// Takes a comment, starting at its `/*`, and the rest of the line on which it ends.
-pub(crate) fn take_comment(cursor: &mut TextCursor) -> Result<TextRange, ReadFault> {
+pub(crate) fn take_comment(cursor: &mut TextCursor) -> Result<TextRange, ReadFault>
+    ensures { OnOk result (cursor.new.text.now ≡ cursor.old.text.now) }
+{
     let start = *cursor;
     cursor.advance(2);
     let Some(length) = place_of(cursor.rest(), b"*/") else {
@@ -199,7 +217,9 @@ fn braced_length(text: &[u8]) -> Option<usize> {
 }
 
 /// Takes the text between the brace of `%top{` and the one that closes it. The line after that follows.
-pub(crate) fn take_braces(cursor: &mut TextCursor) -> Result<TextRange, ReadFault> {
+pub(crate) fn take_braces(cursor: &mut TextCursor) -> Result<TextRange, ReadFault>
+    ensures { OnOk result (cursor.new.text.now ≡ cursor.old.text.now) }
+{
     let place = cursor.place();
     let Some(open) = place_of(cursor.line_rest(), b"{") else {
         return stop(place, ImportCause::BadDefinitionLine);
@@ -250,7 +270,9 @@ pub(crate) fn lines_before(text: &[u8]) -> u32 {
 }
 
 /// Returns the text after a mark at its start.
-pub(crate) fn strip_mark<'a>(mark: &[u8], text: &'a [u8]) -> Option<&'a [u8]> {
+pub(crate) fn strip_mark<'a>(mark: &[u8], text: &'a [u8]) -> Option<&'a [u8]>
+    ensures { is_some result ≡ starts mark.now text.now }
+{
     if front(mark.len(), text) == mark {
         Some(skip(mark.len(), text))
     } else {

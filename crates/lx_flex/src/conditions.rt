@@ -1,7 +1,9 @@
 //! Start conditions (flex's manual, "Start Conditions").
 
-ghost use Rattle.std.specs.Prelude.{◌≡◌, ◌<◌, IfOk, length, map};
+ghost use Rattle.std.specs.Prelude.{◌≡◌, ◌<◌, IfOk, length, map, take};
+ghost use Rattle.std.specs.List.{prefix_len};
 ghost use Rattle.lx_flex.specs.Activity.{condition_number, joined};
+ghost use Rattle.lx_flex.specs.ConditionLists.{continues_name, name_len, starts_name};
 
 use crate::cursor::front;
 use std::alloc::{AllocError, Global};
@@ -68,23 +70,53 @@ pub(crate) fn new_name(
     Ok(renamed)
 }
 
-/// Returns true if the byte may be in a flex name.
-fn is_name_byte(byte: u8, first: bool) -> bool {
-    byte.is_ascii_alphabetic()
-        || byte == b'_'
-        || (!first && (byte.is_ascii_digit() || byte == b'-'))
+fn starts_name(byte: u8) -> bool
+    ensures { result ≡ starts_name byte }
+{
+    byte.is_ascii_alphabetic() || byte == b'_'
 }
 
-/// Returns the name at the start of a text: a letter or `_`, then letters, digits, `_` and hyphens. The result is empty if there is none.
-pub(crate) fn name_at(text: &[u8]) -> &[u8] {
+fn continues_name(byte: u8) -> bool
+    ensures { result ≡ continues_name byte }
+{
+    starts_name(byte) || byte.is_ascii_digit() || byte == b'-'
+}
+
+/// Returns the number of bytes at the start that may be in a name, not only as its first byte.
+fn continued_length(text: &[u8]) -> usize
+    ensures { result ≡ prefix_len continues_name text.now }
+{
     let mut count: usize = 0;
     for byte in text {
-        if !is_name_byte(*byte, count == 0) {
+        if !continues_name(*byte) {
             break;
         }
         count = count.saturating_add(1);
     }
-    front(count, text)
+    count
+}
+
+/// Returns the number of bytes of the name at the start of a text, or 0.
+fn name_length(text: &[u8]) -> usize
+    ensures { result ≡ name_len text.now }
+{
+    match text {
+        [first, ..] => {
+            if starts_name(*first) {
+                continued_length(text)
+            } else {
+                0
+            }
+        }
+        [] => 0,
+    }
+}
+
+/// Returns the name at the start of a text: a letter or `_`, then letters, digits, `_` and hyphens. The result is empty if there is none.
+pub(crate) fn name_at(text: &[u8]) -> &[u8]
+    ensures { result.now ≡ take (name_len text.now) text.now }
+{
+    front(name_length(text), text)
 }
 
 /// Returns the numbers that are in either list, in ascending order.

@@ -1,12 +1,24 @@
 //! A position in a file.
 
+ghost use Rattle.std.specs.Prelude.{◌≡◌, drop, length, nat_eq, slice_get, take};
+ghost use Rattle.std.specs.Char.{is_ascii_whitespace};
+ghost use Rattle.std.specs.List.{prefix_len};
+ghost use Rattle.lx_ere.specs.Brackets.{begins_with};
+ghost use Rattle.lx_flex.specs.ConditionLists.{starts};
+ghost use Rattle.lx_flex.specs.RulesSections.{after_line, begins_blank, is_blank, is_blank_line, is_in_line, is_newline, is_line_end, IsFurther, unblanked};
+ghost use Rattle.lx_flex.specs.States.{left};
+
 /// Returns the text without its first n bytes.
-pub(crate) fn skip(n: usize, text: &[u8]) -> &[u8] {
+pub(crate) fn skip(n: usize, text: &[u8]) -> &[u8]
+    ensures { result.now ≡ drop n text.now }
+{
     if n <= text.len() { &text[n..] } else { &[] }
 }
 
 /// Returns the first n bytes of the text, or all of it.
-pub(crate) fn front(n: usize, text: &[u8]) -> &[u8] {
+pub(crate) fn front(n: usize, text: &[u8]) -> &[u8]
+    ensures { result.now ≡ take n text.now }
+{
     if n <= text.len() { &text[..n] } else { text }
 }
 
@@ -15,15 +27,43 @@ pub(crate) fn between(from: usize, to: usize, text: &[u8]) -> &[u8] {
     skip(from, front(to, text))
 }
 
-pub(crate) fn is_blank(byte: u8) -> bool {
+pub(crate) fn is_blank(byte: u8) -> bool
+    ensures { result ≡ is_blank byte }
+{
     byte == b' ' || byte == b'\t'
 }
 
+/// Returns true if the first byte is a blank.
+pub(crate) fn begins_blank(text: &[u8]) -> bool
+    ensures { result ≡ begins_blank text.now }
+{
+    match text {
+        [first, ..] => is_blank(*first),
+        [] => false,
+    }
+}
+
 /// Returns the number of blanks at the start.
-pub(crate) fn blank_run(text: &[u8]) -> usize {
+pub(crate) fn blank_run(text: &[u8]) -> usize
+    ensures { result ≡ prefix_len is_blank text.now }
+{
     let mut count: usize = 0;
     for byte in text {
         if !is_blank(*byte) {
+            break;
+        }
+        count = count.saturating_add(1);
+    }
+    count
+}
+
+/// Returns the number of bytes of white space at the start.
+pub(crate) fn space_run(text: &[u8]) -> usize
+    ensures { result ≡ prefix_len is_ascii_whitespace text.now }
+{
+    let mut count: usize = 0;
+    for byte in text {
+        if !byte.is_ascii_whitespace() {
             break;
         }
         count = count.saturating_add(1);
@@ -44,8 +84,30 @@ pub(crate) fn trim_end(text: &[u8]) -> &[u8] {
     front(end, text)
 }
 
+/// Returns true if the text is empty or begins with a newline.
+fn is_newline(text: &[u8]) -> bool
+    ensures { result ≡ is_newline text.now }
+{
+    match text {
+        [first, ..] => *first == b'\n',
+        [] => true,
+    }
+}
+
+/// Returns true if nothing is left of the line, but a carriage return.
+fn is_line_end(text: &[u8]) -> bool
+    ensures { result ≡ is_line_end text.now }
+{
+    match text.split_first() {
+        Some((first, rest)) => *first == b'\n' || (*first == b'\r' && is_newline(rest)),
+        None => true,
+    }
+}
+
 /// Returns the number of bytes before the first newline.
-fn line_length(text: &[u8]) -> usize {
+fn line_length(text: &[u8]) -> usize
+    ensures { result ≡ prefix_len is_in_line text.now }
+{
     let mut count: usize = 0;
     for byte in text {
         if *byte == b'\n' {
@@ -112,7 +174,9 @@ pub(crate) struct TextCursor<'a> {
 }
 
 impl<'a> TextCursor<'a> {
-    pub(crate) fn new(text: &'a [u8]) -> TextCursor<'a> {
+    pub(crate) fn new(text: &'a [u8]) -> TextCursor<'a>
+        ensures { result.text.now ≡ text.now }
+    {
         TextCursor {
             text,
             at: 0,
@@ -140,24 +204,37 @@ impl<'a> TextCursor<'a> {
     }
 
     /// Returns the rest of the text.
-    pub(crate) fn rest(&self) -> &'a [u8] {
+    pub(crate) fn rest(&self) -> &'a [u8]
+        ensures { result.now ≡ left self.now }
+    {
         skip(self.at, self.text)
     }
 
-    pub(crate) fn is_at_end(&self) -> bool {
+    pub(crate) fn is_at_end(&self) -> bool
+        ensures { result ≡ nat_eq (length (left self.now)) 0 }
+    {
         self.rest().is_empty()
     }
 
     /// Returns the byte `n` bytes ahead.
-    pub(crate) fn peek_at(&self, n: usize) -> Option<u8> {
+    pub(crate) fn peek_at(&self, n: usize) -> Option<u8>
+        ensures { result ≡ slice_get (left self.now) n }
+    {
         self.rest().get(n).copied()
     }
 
-    pub(crate) fn is_at(&self, byte: u8) -> bool {
-        self.peek_at(0) == Some(byte)
+    pub(crate) fn is_at(&self, byte: u8) -> bool
+        ensures { result ≡ begins_with byte (left self.now) }
+    {
+        match self.rest() {
+            [first, ..] => *first == byte,
+            [] => false,
+        }
     }
 
-    pub(crate) fn begins_with(&self, prefix: &[u8]) -> bool {
+    pub(crate) fn begins_with(&self, prefix: &[u8]) -> bool
+        ensures { result ≡ starts prefix.now (left self.now) }
+    {
         front(prefix.len(), self.rest()) == prefix
     }
 
@@ -172,7 +249,10 @@ impl<'a> TextCursor<'a> {
     }
 
     /// Advances by `n` bytes.
-    pub(crate) fn advance(&mut self, n: usize) {
+    pub(crate) fn advance(&mut self, n: usize)
+        ensures left { left self.new ≡ drop n (left self.old) }
+        ensures text { self.new.text.now ≡ self.old.text.now }
+    {
         let mut at = self.at;
         for byte in front(n, self.rest()) {
             at = at.saturating_add(1);
@@ -185,18 +265,28 @@ impl<'a> TextCursor<'a> {
     }
 
     /// Advances to the next line.
-    pub(crate) fn skip_line(&mut self) {
+    pub(crate) fn skip_line(&mut self)
+        ensures further { IsFurther (left self.old) (left self.new) }
+        ensures line { left self.new ≡ after_line (left self.old) }
+        ensures text { self.new.text.now ≡ self.old.text.now }
+    {
         let length = line_length(self.rest());
         self.advance(length.saturating_add(1));
     }
 
-    pub(crate) fn skip_blanks(&mut self) {
+    pub(crate) fn skip_blanks(&mut self)
+        ensures left { left self.new ≡ unblanked (left self.old) }
+        ensures text { self.new.text.now ≡ self.old.text.now }
+    {
         let count = blank_run(self.rest());
         self.advance(count);
     }
 
     /// Returns true if the rest of the line has only blanks.
-    pub(crate) fn is_blank_line(&self) -> bool {
-        blank_run(self.line_rest()) == self.line_rest().len()
+    pub(crate) fn is_blank_line(&self) -> bool
+        ensures { result ≡ is_blank_line (left self.now) }
+    {
+        let rest = self.rest();
+        is_line_end(skip(blank_run(rest), rest))
     }
 }

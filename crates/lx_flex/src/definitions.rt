@@ -1,5 +1,9 @@
 //! The definitions section (flex's manual, "Format of the Definitions Section").
 
+ghost use Rattle.std.specs.Prelude.{◌≡◌, ◌<◌, IfOk, OnOk, vec_len};
+ghost use Rattle.lx_flex.specs.RulesSections.{IsAfterMark};
+ghost use Rattle.lx_flex.specs.States.{left};
+
 use crate::c_code::{take_braces, take_comment, take_line, take_lines};
 use crate::conditions::{FlexCondition, name_at, new_name, place_of};
 use crate::cursor::{FilePlace, TextCursor, TextRange, blank_run, front, is_blank, skip, trim_end};
@@ -30,10 +34,9 @@ pub struct Declared {
 }
 
 /// Returns the declarations before any line is read: only `INITIAL`, with the options of the command line.
-pub(crate) fn nothing_declared(
-    alloc: Global,
-    options: FlexOptions,
-) -> Result<Declared, AllocError> {
+pub(crate) fn nothing_declared(alloc: Global, options: FlexOptions) -> Result<Declared, AllocError>
+    ensures { IfOk result (λ d. vec_len d.conditions < 65536) }
+{
     let mut conditions = Vec::new(alloc);
     conditions.push(FlexCondition {
         name: Vec::from_slice(alloc, b"INITIAL")?,
@@ -69,7 +72,10 @@ fn add_condition(
     place: FilePlace,
     name: &[u8],
     exclusive: bool,
-) -> Result<(), ReadFault> {
+) -> Result<(), ReadFault>
+    requires { vec_len declared.old.conditions < 65536 }
+    ensures { OnOk result (vec_len declared.new.conditions < 65536) }
+{
     if is_condition(declared, name) {
         reports.add(place, ImportCause::Twice, true)?;
         return Ok(());
@@ -93,7 +99,11 @@ fn read_conditions(
     declared: &mut Declared,
     reports: &mut Reports,
     exclusive: bool,
-) -> Result<(), ReadFault> {
+) -> Result<(), ReadFault>
+    requires { vec_len declared.old.conditions < 65536 }
+    ensures few { OnOk result (vec_len declared.new.conditions < 65536) }
+    ensures text { OnOk result (cursor.new.text.now ≡ cursor.old.text.now) }
+{
     for _ in cursor.line_rest() {
         cursor.skip_blanks();
         let rest = cursor.line_rest();
@@ -118,7 +128,11 @@ fn read_definition(
     cursor: &mut TextCursor,
     declared: &mut Declared,
     reports: &mut Reports,
-) -> Result<(), ReadFault> {
+) -> Result<(), ReadFault>
+    requires { vec_len declared.old.conditions < 65536 }
+    ensures few { OnOk result (vec_len declared.new.conditions < 65536) }
+    ensures text { OnOk result (cursor.new.text.now ≡ cursor.old.text.now) }
+{
     let place = cursor.place();
     let line = cursor.line_rest();
     let name = name_at(line);
@@ -175,7 +189,11 @@ fn read_directive(
     cursor: &mut TextCursor,
     declared: &mut Declared,
     reports: &mut Reports,
-) -> Result<(), ReadFault> {
+) -> Result<(), ReadFault>
+    requires { vec_len declared.old.conditions < 65536 }
+    ensures few { OnOk result (vec_len declared.new.conditions < 65536) }
+    ensures text { OnOk result (cursor.new.text.now ≡ cursor.old.text.now) }
+{
     if cursor.begins_with(b"%{") {
         let code = take_lines(cursor)?;
         return add_code(&mut declared.code, code);
@@ -222,7 +240,11 @@ fn read_line(
     cursor: &mut TextCursor,
     declared: &mut Declared,
     reports: &mut Reports,
-) -> Result<(), ReadFault> {
+) -> Result<(), ReadFault>
+    requires { vec_len declared.old.conditions < 65536 }
+    ensures few { OnOk result (vec_len declared.new.conditions < 65536) }
+    ensures text { OnOk result (cursor.new.text.now ≡ cursor.old.text.now) }
+{
     let begins_blank = match cursor.peek_at(0) {
         Some(byte) => is_blank(byte),
         None => true,
@@ -250,7 +272,10 @@ pub(crate) fn read_definitions(
     cursor: &mut TextCursor,
     options: FlexOptions,
     reports: &mut Reports,
-) -> Result<Declared, ReadFault> {
+) -> Result<Declared, ReadFault>
+    ensures few { IfOk result (λ d. vec_len d.conditions < 65536) }
+    ensures begins { OnOk result (IsAfterMark cursor.old.text.now (left cursor.new)) }
+{
     let mut declared = nothing_declared(alloc, options)?;
     for _ in 0..cursor.text.len() {
         if cursor.begins_with(b"%%") {

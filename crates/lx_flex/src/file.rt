@@ -1,5 +1,9 @@
 //! Reads a whole file for lex or flex (POSIX.1-2017, XCU `lex`, "Input Files"; flex's manual, "Format of the Input File").
 
+ghost use Rattle.std.specs.Prelude.{◌≡◌, ⊤, IfOk, IfSome, OnOk, false};
+ghost use Rattle.lx_flex.specs.RulesSections.{HasRules};
+ghost use Rattle.lx_flex.specs.States.{IfNoFault, conditions_of, names_of};
+
 use crate::cursor::{FilePlace, TextCursor, TextRange};
 use crate::definitions::{Declared, FlexDefinition, read_definitions};
 use crate::options::FlexOptions;
@@ -60,7 +64,9 @@ fn judge_options(options: &FlexOptions, reports: &mut Reports) -> Result<(), All
 }
 
 /// Reports a last rule whose action is that of a next one.
-fn judge_last_rule(rules: &FlexRules, reports: &mut Reports) -> Result<(), AllocError> {
+fn judge_last_rule(rules: &FlexRules, reports: &mut Reports) -> Result<(), AllocError>
+    ensures { OnOk result (IfNoFault reports.old.fatal reports.new.fatal ⊤) }
+{
     match rules.list.last() {
         Some(rule) => {
             if rule.action == RuleAction::Bar {
@@ -86,7 +92,10 @@ fn read_sections<'a>(
     text: &'a [u8],
     options: FlexOptions,
     reports: &mut Reports,
-) -> Result<FlexFile<'a>, ReadFault> {
+) -> Result<FlexFile<'a>, ReadFault>
+    ensures { IfOk result (λ file. reports.new.fatal ≡ false
+        → HasRules (names_of file.declared) text.now (conditions_of file.rules.list.items)) }
+{
     if text.len() > MAX_SPECIFICATION_BYTES {
         return stop(FilePlace::WHOLE, ImportCause::TooLong);
     }
@@ -112,7 +121,10 @@ pub fn read_file<'a>(
     alloc: Global,
     text: &'a [u8],
     options: FlexOptions,
-) -> Result<(Option<FlexFile<'a>>, Reports), AllocError> {
+) -> Result<(Option<FlexFile<'a>>, Reports), AllocError>
+    ensures { IfOk result (λ r. IfSome r.0 (λ file. HasRules (names_of file.declared) text.now
+        (conditions_of file.rules.list.items))) }
+{
     let mut reports = Reports {
         list: Vec::new(alloc),
         fatal: false,

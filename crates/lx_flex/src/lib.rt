@@ -17,6 +17,7 @@ pub mod options;
 mod printing;
 pub mod report;
 pub mod rules;
+mod scopes;
 pub mod tokens;
 mod warning;
 

@@ -1,5 +1,7 @@
 //! The words of `%option` (flex's manual, "Scanner Options").
 
+ghost use Rattle.std.specs.Prelude.{◌≡◌, OnOk};
+
 use crate::cursor::{FilePlace, TextCursor, blank_run, front, is_blank, place_of, skip};
 use crate::report::{ImportCause, Reports};
 use lx_flex_pattern::PatternOptions;
@@ -364,7 +366,9 @@ pub(crate) fn read_options(
     cursor: &mut TextCursor,
     options: &mut FlexOptions,
     reports: &mut Reports,
-) -> Result<(), AllocError> {
+) -> Result<(), AllocError>
+    ensures { OnOk result (cursor.new.text.now ≡ cursor.old.text.now) }
+{
     for _ in cursor.line_rest() {
         cursor.skip_blanks();
         let rest = cursor.line_rest();

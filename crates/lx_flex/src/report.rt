@@ -1,5 +1,7 @@
 //! Reports on constructs that can't be imported, or only with a loss, and on what to do.
 
+ghost use Rattle.std.specs.Prelude.{◌≡◌, ◌||◌, IsErr, OnOk};
+
 use crate::actions::Problem;
 use crate::cursor::FilePlace;
 use std::alloc::{AllocError, AllocFailed};
@@ -22,8 +24,6 @@ pub enum ImportCause {
     TooMany,
     #[error("flex has no such %option; delete the word")]
     UnknownOption,
-    #[error("REJECT is not supported; write the other rule's pattern first")]
-    RejectInScanner,
     #[error("C++ scanners (%option c++, yyclass) are not supported; a C++ compiler takes the scanner in C, so delete the word")]
     CppScanner,
     #[error("serialized tables (%option tables-file, tables-verify) are not supported; the scanner has its tables, so delete the word")]
@@ -136,7 +136,6 @@ impl ImportCause {
         matches!(
             self,
             ImportCause::Pattern(_)
-                | ImportCause::RejectInScanner
                 | ImportCause::DanglingBar
                 | ImportCause::NeverMatched(_)
                 | ImportCause::DangerousContext
@@ -248,7 +247,9 @@ impl Reports {
         place: FilePlace,
         cause: ImportCause,
         fatal: bool,
-    ) -> Result<(), AllocError> {
+    ) -> Result<(), AllocError>
+        ensures { OnOk result (self.new.fatal ≡ (self.old.fatal || fatal)) }
+    {
         self.fatal = self.fatal || fatal;
         if self.list.len() < MAX_REPORTS {
             let at = self.count_up_to(place.line).min(self.list.len());
@@ -269,7 +270,9 @@ impl Reports {
     }
 
     /// Adds a warning, if warnings are reported.
-    pub fn warn(&mut self, place: FilePlace, cause: ImportCause) -> Result<(), AllocError> {
+    pub fn warn(&mut self, place: FilePlace, cause: ImportCause) -> Result<(), AllocError>
+        ensures { OnOk result (self.new.fatal ≡ self.old.fatal) }
+    {
         if !self.warns {
             return Ok(());
         }
@@ -296,7 +299,9 @@ impl Reports {
 }
 
 /// Returns a report that stops reading.
-pub(crate) fn stop<T>(place: FilePlace, cause: ImportCause) -> Result<T, ReadFault> {
+pub(crate) fn stop<T>(place: FilePlace, cause: ImportCause) -> Result<T, ReadFault>
+    ensures { IsErr result }
+{
     Err(ReadFault::At(ImportReport {
         place,
         cause,

@@ -1,18 +1,27 @@
 //! The rules section (flex's manual, "Format of the Rules Section", "Start Conditions").
 
+ghost use Rattle.std.specs.Prelude.{◌≡◌, ◌≢◌, ◌<◌, ◌++◌, ◌∷◌, ⊤, [], IfOk, IfSome, IsSome, is_some, MatchOption, OnOk, false, true, length, vec_len};
+ghost use Rattle.std.specs.List.{range_with_len};
+ghost use Rattle.std.specs.Option.{option_map};
+ghost use Rattle.lx_flex.specs.Activity.{condition_number};
+ghost use Rattle.lx_flex.specs.ConditionLists.{AreAllDeclared, IsList, IsNoList, after_name, name_len, name_of, numbers_of, unspaced};
+ghost use Rattle.lx_flex.specs.RulesSections.{IsAfterCode, IsFurther, IsLater, IsRulesSection, Follows, begins_digit, begins_list, if_any, is_braced_name, is_code, is_end, is_first_code, is_later_code, opens_scope};
+ghost use Rattle.lx_flex.specs.States.{HasRead, IfNoFault, IsClosed, IsListRead, begun, conditions_of, left, names_of, state_of, with_rule, with_scope};
+
 use crate::c_code::{strip_mark, take_action, take_block, take_line, take_lines};
-use crate::conditions::{name_at, place_of, union};
-use crate::cursor::{FilePlace, TextCursor, TextRange, blank_run, front, is_blank, skip};
+use crate::conditions::{name_at, place_of};
+use crate::cursor::{
+    FilePlace, TextCursor, TextRange, begins_blank, blank_run, front, is_blank, skip, space_run,
+};
 use crate::definitions::{Declared, add_code};
 use crate::report::{ImportCause, ReadFault, Reports, stop};
+use crate::scopes::Scopes;
 use crate::warning::warn_of_pattern;
+use lx_ere::prefix::begins_with;
 use lx_flex_pattern::reading::MAX_FLEX_PATTERN_BYTES;
 use lx_flex_pattern::{NamedPatterns, PatternFault, PatternReading, read_pattern};
 use lx_rules::limits::MAX_RULES;
 use std::alloc::{AllocError, Global};
-
-/// Greatest number of scopes that are open at once.
-const MAX_SCOPES: usize = 64;
 
 /// The action of a rule, as it is written.
 #[derive(Debug, Clone, Copy, PartialEq, Eq)]
@@ -32,13 +41,6 @@ pub struct FlexRule {
     /// Pattern of the rule. `None` for `<<EOF>>`.
     pub reading: Option<PatternReading>,
     pub action: RuleAction,
-}
-
-/// An open scope: its conditions with those around it, and its place.
-#[derive(Drop)]
-struct Scope {
-    conditions: Vec<u16>,
-    place: FilePlace,
 }
 
 /// C text after a number of rules.
@@ -62,7 +64,7 @@ pub struct FlexRules {
 /// The rules that were read, and the scopes that are open.
 #[derive(Drop)]
 struct Rules {
-    scopes: Vec<Scope>,
+    scopes: Scopes,
     first_code: Vec<TextRange>,
     list: Vec<FlexRule>,
     code: Vec<CodeAfterRules>,
@@ -70,19 +72,20 @@ struct Rules {
     prologue: bool,
 }
 
-fn own_conditions(alloc: Global, rules: &Rules) -> Result<Vec<u16>, AllocError> {
-    match rules.scopes.last() {
-        Some(scope) => scope.conditions.clone(),
-        None => Ok(Vec::new(alloc)),
-    }
-}
-
-fn condition_count(declared: &Declared) -> u16 {
+/// Returns the number of conditions.
+fn condition_count(declared: &Declared) -> u16
+    requires { vec_len declared.now.conditions < 65536 }
+    ensures { result ≡ length (names_of declared.now) }
+{
     u16::try_from(declared.conditions.len()).unwrap_or(u16::MAX)
 }
 
 /// Returns all conditions.
-fn all_conditions(alloc: Global, declared: &Declared) -> Result<Vec<u16>, AllocError> {
+#[tactic(auto, using(crate::proofs::Joining::range_next))]
+fn all_conditions(alloc: Global, declared: &Declared) -> Result<Vec<u16>, AllocError>
+    requires { vec_len declared.now.conditions < 65536 }
+    ensures { IfOk result (λ v. v.items ≡ range_with_len 0 (length (names_of declared.now))) }
+{
     let mut numbers = Vec::new(alloc);
     for number in 0..condition_count(declared) {
         numbers.push(number)?;
@@ -91,14 +94,10 @@ fn all_conditions(alloc: Global, declared: &Declared) -> Result<Vec<u16>, AllocE
 }
 
 /// Skips blanks and newlines between the names of a list.
-fn skip_space(cursor: &mut TextCursor) {
-    let mut count: usize = 0;
-    for byte in cursor.rest() {
-        if !byte.is_ascii_whitespace() {
-            break;
-        }
-        count = count.saturating_add(1);
-    }
+fn skip_space(cursor: &mut TextCursor)
+    ensures { left cursor.new ≡ unspaced (left cursor.old) }
+{
+    let count = space_run(cursor.rest());
     cursor.advance(count);
 }
 
@@ -108,7 +107,17 @@ fn read_condition(
     declared: &Declared,
     reports: &mut Reports,
     numbers: &mut Vec<u16>,
-) -> Result<bool, ReadFault> {
+) -> Result<bool, ReadFault>
+    requires { vec_len declared.now.conditions < 65536 }
+    ensures none { IfOk result (λ was. was ≡ false → name_len (left cursor.old) ≡ 0) }
+    ensures same { IfOk result (λ was. was ≡ false → reports.new.fatal ≡ reports.old.fatal) }
+    ensures name { IfOk result (λ was. was ≡ true → (name_len (left cursor.old) ≢ 0)
+        × (left cursor.new ≡ after_name (left cursor.old))) }
+    ensures number { IfOk result (λ was. was ≡ true → numbers.new.items
+        ≡ numbers.old.items ++ numbers_of (names_of declared.now) (name_of (left cursor.old) ∷ [])) }
+    ensures reported { IfOk result (λ was. was ≡ true → IfNoFault reports.old.fatal reports.new.fatal
+        (is_some (condition_number (names_of declared.now) (name_of (left cursor.old))) ≡ true)) }
+{
     let name = name_at(cursor.rest());
     if name.is_empty() {
         return Ok(false);
@@ -129,7 +138,14 @@ fn read_list(
     cursor: &mut TextCursor,
     declared: &Declared,
     reports: &mut Reports,
-) -> Result<Option<Vec<u16>>, ReadFault> {
+) -> Result<Option<Vec<u16>>, ReadFault>
+    requires { vec_len declared.now.conditions < 65536 }
+    ensures list { IfOk result (λ found. MatchOption found (IsNoList (names_of declared.now) (left cursor.old))
+        (λ own. IsList (names_of declared.now) (left cursor.old) own.items (left cursor.new))) }
+    ensures reported { IfOk result (λ found. IfSome found (λ _. IfNoFault reports.old.fatal reports.new.fatal
+        (AreAllDeclared (names_of declared.now) (left cursor.old)))) }
+    ensures kept { OnOk result (IfNoFault reports.old.fatal reports.new.fatal ⊤) }
+{
     if cursor.begins_with(b"*>") {
         cursor.advance(2);
         return Ok(Some(all_conditions(alloc, declared)?));
@@ -141,12 +157,13 @@ fn read_list(
             return Ok(None);
         }
         skip_space(cursor);
-        let mark = cursor.peek_at(0);
+        let ends = cursor.is_at(b'>');
+        let goes_on = cursor.is_at(b',');
         cursor.advance(1);
-        if mark == Some(b'>') {
+        if ends {
             return Ok(Some(numbers));
         }
-        if mark != Some(b',') {
+        if !goes_on {
             return Ok(None);
         }
     }
@@ -154,7 +171,9 @@ fn read_list(
 }
 
 /// Reads the action after a pattern.
-fn read_action(cursor: &mut TextCursor) -> Result<RuleAction, ReadFault> {
+fn read_action(cursor: &mut TextCursor) -> Result<RuleAction, ReadFault>
+    ensures { OnOk result (IsFurther (left cursor.old) (left cursor.new)) }
+{
     cursor.skip_blanks();
     if cursor.is_at(b'|') {
         cursor.skip_line();
@@ -167,16 +186,15 @@ fn read_action(cursor: &mut TextCursor) -> Result<RuleAction, ReadFault> {
     Ok(RuleAction::Code(take_action(cursor)?))
 }
 
-/// Returns the conditions of a rule: those of the scopes and its own.
-fn conditions_of(
-    alloc: Global,
-    rules: &Rules,
-    declared: &Declared,
-    own: &[u16],
-) -> Result<Option<Vec<u16>>, AllocError> {
-    let outer = own_conditions(alloc, rules)?;
-    let all = union(alloc, condition_count(declared), outer.as_slice(), own)?;
-    Ok(if all.is_empty() { None } else { Some(all) })
+/// Returns the conditions, or `None` if there are none.
+fn if_any(conditions: Vec<u16>) -> Option<Vec<u16>>
+    ensures { option_map (λ v. v.items) result ≡ if_any conditions.items }
+{
+    if conditions.is_empty() {
+        None
+    } else {
+        Some(conditions)
+    }
 }
 
 /// Returns true if an action or the line's end follows the pattern.
@@ -202,6 +220,65 @@ fn pattern_at(
     Ok(reading)
 }
 
+/// Adds the warnings on a pattern that begins here, if warnings are reported.
+fn warn_if_asked(
+    alloc: Global,
+    cursor: &TextCursor,
+    declared: &Declared,
+    names: &NamedPatterns,
+    reading: &PatternReading,
+    reports: &mut Reports,
+) -> Result<(), AllocError>
+    ensures { OnOk result (reports.new.fatal ≡ reports.old.fatal) }
+{
+    if !reports.warns {
+        return Ok(());
+    }
+    let options = declared.options.for_patterns();
+    let text = front(reading.length, cursor.rest());
+    warn_of_pattern(
+        alloc,
+        cursor.place(),
+        text,
+        reading,
+        names,
+        options,
+        reports,
+    )
+}
+
+/// Advances over a pattern that was read. Returns `None` with a report if no action follows it.
+fn take_pattern(
+    cursor: &mut TextCursor,
+    reading: PatternReading,
+    reports: &mut Reports,
+) -> Result<Option<PatternReading>, ReadFault>
+    ensures later { OnOk result (IsLater (left cursor.old) (left cursor.new)) }
+    ensures some { IfOk result (λ r. IfNoFault reports.old.fatal reports.new.fatal (IsSome r)) }
+{
+    cursor.advance(reading.length);
+    if is_behind_pattern(cursor) {
+        return Ok(Some(reading));
+    }
+    reports.add(cursor.place(), ImportCause::BadRule, true)?;
+    Ok(None)
+}
+
+/// Reports a fault of a pattern, and skips it.
+fn skip_pattern(
+    cursor: &mut TextCursor,
+    cause: PatternFault,
+    reports: &mut Reports,
+) -> Result<(), ReadFault>
+    ensures later { OnOk result (IsLater (left cursor.old) (left cursor.new)) }
+    ensures fatal { OnOk result (reports.new.fatal ≡ true) }
+{
+    reports.add(cursor.place(), ImportCause::Pattern(cause), true)?;
+    let length = lx_ere::pattern_end(cursor.line_rest());
+    cursor.advance(length);
+    Ok(())
+}
+
 /// Reads the pattern, or returns `None` with a report. Its action follows.
 fn read_rule_pattern(
     alloc: Global,
@@ -209,29 +286,43 @@ fn read_rule_pattern(
     declared: &Declared,
     names: &NamedPatterns,
     reports: &mut Reports,
-) -> Result<Option<PatternReading>, ReadFault> {
-    let place = cursor.place();
+) -> Result<Option<PatternReading>, ReadFault>
+    ensures later { OnOk result (IsLater (left cursor.old) (left cursor.new)) }
+    ensures some { IfOk result (λ r. IfNoFault reports.old.fatal reports.new.fatal (IsSome r)) }
+{
     match pattern_at(alloc, cursor.rest(), declared, names) {
         Ok(reading) => {
-            if reports.warns {
-                let options = declared.options.for_patterns();
-                let text = front(reading.length, cursor.rest());
-                warn_of_pattern(alloc, place, text, &reading, names, options, reports)?;
-            }
-            cursor.advance(reading.length);
-            if is_behind_pattern(cursor) {
-                return Ok(Some(reading));
-            }
-            reports.add(cursor.place(), ImportCause::BadRule, true)?;
+            warn_if_asked(alloc, cursor, declared, names, &reading, reports)?;
+            let taken = take_pattern(cursor, reading, reports)?;
+            Ok(taken)
         }
-        Err(PatternFault::Memory) => return Err(ReadFault::Memory),
+        Err(PatternFault::Memory) => Err(ReadFault::Memory),
         Err(cause) => {
-            reports.add(place, ImportCause::Pattern(cause), true)?;
-            let length = lx_ere::pattern_end(cursor.line_rest());
-            cursor.advance(length);
+            skip_pattern(cursor, cause, reports)?;
+            Ok(None)
         }
     }
-    Ok(None)
+}
+
+/// Reads what a rule matches: its pattern, or `None` for `<<EOF>>`. Returns `None` with a report if there is neither.
+fn read_rule_start(
+    alloc: Global,
+    cursor: &mut TextCursor,
+    declared: &Declared,
+    names: &NamedPatterns,
+    reports: &mut Reports,
+) -> Result<Option<Option<PatternReading>>, ReadFault>
+    ensures later { OnOk result (IsLater (left cursor.old) (left cursor.new)) }
+    ensures some { IfOk result (λ r. IfNoFault reports.old.fatal reports.new.fatal (IsSome r)) }
+{
+    if cursor.begins_with(b"<<EOF>>") {
+        cursor.advance(7);
+        return Ok(Some(None));
+    }
+    match read_rule_pattern(alloc, cursor, declared, names, reports)? {
+        Some(reading) => Ok(Some(Some(reading))),
+        None => Ok(None),
+    }
 }
 
 /// Reads a rule, starting at its pattern.
@@ -243,44 +334,56 @@ fn read_rule(
     reports: &mut Reports,
     rules: &mut Rules,
     own: &[u16],
-) -> Result<(), ReadFault> {
+) -> Result<(), ReadFault>
+    requires { vec_len declared.now.conditions < 65536 }
+    ensures further { OnOk result (IsFurther (left cursor.old) (left cursor.new)) }
+    ensures rule { OnOk result (IfNoFault reports.old.fatal reports.new.fatal
+        (state_of rules.new ≡ with_rule (length (names_of declared.now)) own.now (state_of rules.old))) }
+{
     let place = cursor.place();
     if rules.list.len() >= MAX_RULES {
         return stop(place, ImportCause::TooMany);
     }
-    let end_of_file = cursor.begins_with(b"<<EOF>>");
-    let reading = if end_of_file {
-        cursor.advance(7);
-        None
-    } else {
-        read_rule_pattern(alloc, cursor, declared, names, reports)?
-    };
+    let start = read_rule_start(alloc, cursor, declared, names, reports)?;
     let action = read_action(cursor)?;
-    if !end_of_file && reading.is_none() {
+    let Some(reading) = start else {
         return Ok(());
-    }
-    let conditions = conditions_of(alloc, rules, declared, own)?;
+    };
+    let conditions = rules
+        .scopes
+        .conditions_inside(alloc, condition_count(declared), own)?;
     rules.list.push(FlexRule {
         place,
-        conditions,
+        conditions: if_any(conditions),
         reading,
         action,
     })?;
     Ok(())
 }
 
+/// Returns true if the text begins with a name and a closing brace.
+fn is_braced_name(text: &[u8]) -> bool
+    ensures { result ≡ is_braced_name text.now }
+{
+    let name = name_at(text);
+    !name.is_empty() && begins_with(b'}', skip(name.len(), text))
+}
+
+fn begins_digit(text: &[u8]) -> bool
+    ensures { result ≡ begins_digit text.now }
+{
+    match text {
+        [first, ..] => first.is_ascii_digit(),
+        [] => false,
+    }
+}
+
 /// Returns true if the next byte is a `{` that opens a scope: neither a name in braces nor a number follows.
-fn opens_scope(cursor: &TextCursor) -> bool {
-    let Some(rest) = strip_mark(b"{", cursor.rest()) else {
-        return false;
-    };
-    let name = name_at(rest);
-    let named = !name.is_empty() && strip_mark(b"}", skip(name.len(), rest)).is_some();
-    let counted = match rest.first() {
-        Some(byte) => byte.is_ascii_digit(),
-        None => false,
-    };
-    !named && !counted
+fn opens_scope(cursor: &TextCursor) -> bool
+    ensures { result ≡ opens_scope (left cursor.now) }
+{
+    let inside = skip(1, cursor.rest());
+    cursor.is_at(b'{') && !(is_braced_name(inside) || begins_digit(inside))
 }
 
 /// Opens a scope.
@@ -290,16 +393,20 @@ fn open_scope(
     declared: &Declared,
     rules: &mut Rules,
     own: &[u16],
-) -> Result<(), ReadFault> {
-    if rules.scopes.len() >= MAX_SCOPES {
-        return stop(cursor.place(), ImportCause::TooMany);
+) -> Result<(), ReadFault>
+    requires { vec_len declared.now.conditions < 65536 }
+    ensures further { OnOk result (IsFurther (left cursor.old) (left cursor.new)) }
+    ensures opened { OnOk result (state_of rules.new
+        ≡ with_scope (length (names_of declared.now)) own.now (state_of rules.old)) }
+{
+    let place = cursor.place();
+    if rules.scopes.is_full() {
+        return stop(place, ImportCause::TooMany);
     }
-    let outer = own_conditions(alloc, rules)?;
-    let conditions = union(alloc, condition_count(declared), outer.as_slice(), own)?;
-    rules.scopes.push(Scope {
-        conditions,
-        place: cursor.place(),
-    })?;
+    let conditions = rules
+        .scopes
+        .conditions_inside(alloc, condition_count(declared), own)?;
+    rules.scopes.open(conditions, place)?;
     cursor.advance(1);
     if is_behind_pattern(cursor) {
         let _code = take_action(cursor)?;
@@ -307,16 +414,33 @@ fn open_scope(
     Ok(())
 }
 
+/// Skips lines of code.
+fn skip_code(cursor: &mut TextCursor, rules: &mut Rules) -> Result<(), ReadFault>
+    requires { rules.old.prologue ≡ false }
+    ensures code { OnOk result (IsAfterCode (left cursor.old) (left cursor.new)) }
+    ensures same { OnOk result (state_of rules.new ≡ state_of rules.old) }
+{
+    for _ in 0..cursor.text.len() {
+        if cursor.is_at_end() {
+            return Ok(());
+        }
+        if !read_code(cursor, rules)? {
+            return Ok(());
+        }
+    }
+    Ok(())
+}
+
 /// Skips to the next line that isn't empty, if nothing follows a list of conditions on its line.
-fn skip_to_next(cursor: &mut TextCursor, rules: &mut Rules) -> Result<(), ReadFault> {
+fn skip_to_next(cursor: &mut TextCursor, rules: &mut Rules) -> Result<(), ReadFault>
+    requires { rules.old.prologue ≡ false }
+    ensures follows { OnOk result (Follows (left cursor.old) (left cursor.new)) }
+    ensures same { OnOk result (state_of rules.new ≡ state_of rules.old) }
+{
     if !cursor.is_blank_line() {
         return Ok(());
     }
-    for _ in 0..cursor.text.len() {
-        if cursor.is_at_end() || !read_code(cursor, rules)? {
-            break;
-        }
-    }
+    skip_code(cursor, rules)?;
     cursor.skip_blanks();
     Ok(())
 }
@@ -329,7 +453,13 @@ fn read_listed(
     names: &NamedPatterns,
     reports: &mut Reports,
     rules: &mut Rules,
-) -> Result<(), ReadFault> {
+) -> Result<(), ReadFault>
+    requires few { vec_len declared.now.conditions < 65536 }
+    requires begun { rules.old.prologue ≡ false }
+    ensures { OnOk result (IfNoFault reports.old.fatal reports.new.fatal
+        (IsListRead (names_of declared.now) (left cursor.old) (left cursor.new)
+        (state_of rules.old) (state_of rules.new))) }
+{
     let place = cursor.place();
     cursor.advance(1);
     let Some(own) = read_list(alloc, cursor, declared, reports)? else {
@@ -338,18 +468,13 @@ fn read_listed(
         return Ok(());
     };
     skip_to_next(cursor, rules)?;
+    let own = own.as_slice();
     if opens_scope(cursor) {
-        return open_scope(alloc, cursor, declared, rules, own.as_slice());
+        open_scope(alloc, cursor, declared, rules, own)?;
+        return Ok(());
     }
-    read_rule(
-        alloc,
-        cursor,
-        declared,
-        names,
-        reports,
-        rules,
-        own.as_slice(),
-    )
+    read_rule(alloc, cursor, declared, names, reports, rules, own)?;
+    Ok(())
 }
 
 /// Closes a scope.
@@ -357,8 +482,12 @@ fn close_scope(
     cursor: &mut TextCursor,
     reports: &mut Reports,
     rules: &mut Rules,
-) -> Result<(), ReadFault> {
-    if rules.scopes.pop().is_none() {
+) -> Result<(), ReadFault>
+    ensures further { OnOk result (IsFurther (left cursor.old) (left cursor.new)) }
+    ensures closed { OnOk result (IfNoFault reports.old.fatal reports.new.fatal
+        (IsClosed (state_of rules.old) (state_of rules.new))) }
+{
+    if !rules.scopes.close() {
         reports.add(cursor.place(), ImportCause::BadRule, true)?;
     }
     cursor.advance(1);
@@ -367,7 +496,9 @@ fn close_scope(
 }
 
 /// Adds C text that isn't an action: before the first rule, or between rules.
-fn keep_code(rules: &mut Rules, code: TextRange) -> Result<(), ReadFault> {
+fn keep_code(rules: &mut Rules, code: TextRange) -> Result<(), ReadFault>
+    ensures { OnOk result (state_of rules.new ≡ state_of rules.old) }
+{
     if rules.prologue {
         return add_code(&mut rules.first_code, code);
     }
@@ -377,13 +508,18 @@ fn keep_code(rules: &mut Rules, code: TextRange) -> Result<(), ReadFault> {
 }
 
 /// Reads code before the first rule: a block or an indented line. Returns true if there was any.
-fn read_first_code(cursor: &mut TextCursor, rules: &mut Rules) -> Result<bool, ReadFault> {
+fn read_first_code(cursor: &mut TextCursor, rules: &mut Rules) -> Result<bool, ReadFault>
+    ensures was { IfOk result (λ was. was ≡ is_first_code (left cursor.old)) }
+    ensures code { IfOk result (λ was. was ≡ true → IsFurther (left cursor.old) (left cursor.new)) }
+    ensures none { IfOk result (λ was. was ≡ false → left cursor.new ≡ left cursor.old) }
+    ensures same { OnOk result (state_of rules.new ≡ state_of rules.old) }
+{
     if cursor.begins_with(b"%{") {
         let code = take_lines(cursor)?;
         keep_code(rules, code)?;
         return Ok(true);
     }
-    if cursor.is_at(b' ') || cursor.is_at(b'\t') {
+    if begins_blank(cursor.rest()) {
         let code = take_line(cursor);
         keep_code(rules, code)?;
         return Ok(true);
@@ -391,18 +527,13 @@ fn read_first_code(cursor: &mut TextCursor, rules: &mut Rules) -> Result<bool, R
     Ok(false)
 }
 
-/// Reads an empty line, code or comments between rules. Returns true if there was any.
-fn read_code(cursor: &mut TextCursor, rules: &mut Rules) -> Result<bool, ReadFault> {
-    if cursor.is_blank_line() {
-        cursor.skip_line();
-        return Ok(true);
-    }
-    if rules.prologue {
-        if read_first_code(cursor, rules)? {
-            return Ok(true);
-        }
-        rules.prologue = false;
-    }
+/// Reads code after the first rule: a block or an indented comment. Returns true if there was any.
+fn read_later_code(cursor: &mut TextCursor, rules: &mut Rules) -> Result<bool, ReadFault>
+    ensures was { IfOk result (λ was. was ≡ is_later_code (left cursor.old)) }
+    ensures code { IfOk result (λ was. was ≡ true → IsFurther (left cursor.old) (left cursor.new)) }
+    ensures none { IfOk result (λ was. was ≡ false → left cursor.new ≡ left cursor.old) }
+    ensures same { OnOk result (state_of rules.new ≡ state_of rules.old) }
+{
     let rest = cursor.rest();
     let inner = skip(blank_run(rest), rest);
     if strip_mark(b"%{", inner).is_some() {
@@ -412,12 +543,39 @@ fn read_code(cursor: &mut TextCursor, rules: &mut Rules) -> Result<bool, ReadFau
         keep_code(rules, code)?;
         return Ok(true);
     }
-    if strip_mark(b"/*", inner).is_some() && blank_run(rest) != 0 {
+    if begins_blank(rest) && strip_mark(b"/*", inner).is_some() {
         let code = take_action(cursor)?;
         keep_code(rules, code)?;
         return Ok(true);
     }
     Ok(false)
+}
+
+/// Reads an empty line, code or comments between rules. Returns true if there was any.
+fn read_code(cursor: &mut TextCursor, rules: &mut Rules) -> Result<bool, ReadFault>
+    ensures was { IfOk result (λ was. was ≡ is_code rules.old.prologue (left cursor.old)) }
+    ensures code { IfOk result (λ was. was ≡ true → IsFurther (left cursor.old) (left cursor.new)
+        × (state_of rules.new ≡ state_of rules.old)) }
+    ensures none { IfOk result (λ was. was ≡ false → (left cursor.new ≡ left cursor.old)
+        × (state_of rules.new ≡ begun (state_of rules.old))) }
+{
+    if cursor.is_blank_line() {
+        cursor.skip_line();
+        return Ok(true);
+    }
+    if !rules.prologue {
+        return read_later_code(cursor, rules);
+    }
+    let was = read_first_code(cursor, rules)?;
+    rules.prologue = was;
+    Ok(was)
+}
+
+/// Returns true if a list of conditions begins here.
+fn begins_list(cursor: &TextCursor) -> bool
+    ensures { result ≡ begins_list (left cursor.now) }
+{
+    cursor.is_at(b'<') && !cursor.begins_with(b"<<EOF>>")
 }
 
 /// Reads one rule, or another construct that begins on a line.
@@ -428,18 +586,33 @@ fn read_line(
     names: &NamedPatterns,
     reports: &mut Reports,
     rules: &mut Rules,
-) -> Result<(), ReadFault> {
+) -> Result<(), ReadFault>
+    requires { vec_len declared.now.conditions < 65536 }
+    ensures { OnOk result (IfNoFault reports.old.fatal reports.new.fatal
+        (HasRead (names_of declared.now) (left cursor.old) (left cursor.new)
+        (state_of rules.old) (state_of rules.new))) }
+{
     if read_code(cursor, rules)? {
         return Ok(());
     }
     cursor.skip_blanks();
     if cursor.is_at(b'}') {
-        return close_scope(cursor, reports, rules);
+        close_scope(cursor, reports, rules)?;
+        return Ok(());
     }
-    if cursor.is_at(b'<') && !cursor.begins_with(b"<<EOF>>") {
-        return read_listed(alloc, cursor, declared, names, reports, rules);
+    if begins_list(cursor) {
+        read_listed(alloc, cursor, declared, names, reports, rules)?;
+        return Ok(());
     }
-    read_rule(alloc, cursor, declared, names, reports, rules, &[])
+    read_rule(alloc, cursor, declared, names, reports, rules, &[])?;
+    Ok(())
+}
+
+/// Returns true at the end of the rules section: at a `%%` line or at the file's end.
+fn is_section_end(cursor: &TextCursor) -> bool
+    ensures { result ≡ is_end (left cursor.now) }
+{
+    cursor.is_at_end() || cursor.begins_with(b"%%")
 }
 
 /// Reads the rules section, up to its `%%` line or the file's end.
@@ -449,16 +622,21 @@ pub(crate) fn read_rules(
     declared: &Declared,
     names: &NamedPatterns,
     reports: &mut Reports,
-) -> Result<FlexRules, ReadFault> {
+) -> Result<FlexRules, ReadFault>
+    requires { vec_len declared.now.conditions < 65536 }
+    ensures { IfOk result (λ rules. IfNoFault reports.old.fatal reports.new.fatal
+        (IsRulesSection (names_of declared.now) (left cursor.old) (left cursor.new)
+        (conditions_of rules.list.items))) }
+{
     let mut rules = Rules {
-        scopes: Vec::new(alloc),
+        scopes: Scopes::new(alloc),
         first_code: Vec::new(alloc),
         list: Vec::new(alloc),
         code: Vec::new(alloc),
         prologue: true,
     };
     for _ in 0..cursor.text.len() {
-        if cursor.is_at_end() || cursor.begins_with(b"%%") {
+        if is_section_end(cursor) {
             break;
         }
         read_line(alloc, cursor, declared, names, reports, &mut rules)?;
@@ -470,8 +648,8 @@ pub(crate) fn read_rules(
         code,
         prologue: _,
     } = rules;
-    match scopes.last() {
-        Some(scope) => stop(scope.place, ImportCause::NotClosed),
+    match scopes.innermost_place() {
+        Some(place) => stop(place, ImportCause::NotClosed),
         None => Ok(FlexRules {
             first_code,
             list,

@@ -1,5 +1,7 @@
 //! Warnings of patterns that are valid, but may not mean what their author expects.
 
+ghost use Rattle.std.specs.Prelude.{◌≡◌, OnOk};
+
 use crate::cursor::FilePlace;
 use crate::lengths::matches_empty;
 use crate::report::{ImportCause, Reports};
@@ -45,7 +47,9 @@ pub(crate) fn warn_of_pattern(
     names: &NamedPatterns,
     options: PatternOptions,
     reports: &mut Reports,
-) -> Result<(), AllocError> {
+) -> Result<(), AllocError>
+    ensures { OnOk result (reports.new.fatal ≡ reports.old.fatal) }
+{
     if has_empty_token(reading) {
         reports.warn(place, ImportCause::EmptyToken)?;
     }
