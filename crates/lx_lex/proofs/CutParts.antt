@@ -1,19 +1,19 @@
 -- The walk over the arrays for the ends of tokens finds a rule exactly where a part matches.
-use Rattle.std.proofs.Common.{ℕ, zero, suc, ◌≡◌, ◌<◌, ◌≤◌, ◌+◌, ◌↔◌, Bool, true, false, List, [], ◌∷◌, Option, Some, None, inl, inr, length, take, refl, sym, ◌∙◌, ap, subst, arith, All}
+use Rattle.std.proofs.Common.{ℕ, zero, suc, ◌≡◌, ◌<◌, ◌+◌, ◌↔◌, false, List, [], ◌∷◌, Option, Some, None, inl, inr, length, take, refl, sym, ◌∙◌, ap, subst, arith}
 use Rattle.std.specs.Prelude.{IsTrue, is_some, slice_get, slice_index, Contains}
 use Rattle.std.proofs.Math.Seq.{take-length}
-use Rattle.lx_automaton.specs.Automata.{Machine, IsMachine, answer, start_of, state_after, state_count}
+use Rattle.lx_automaton.specs.Automata.{IsMachine, answer, start_of, state_after, state_count}
 use Rattle.lx_automaton.specs.Meaning.{IsAnswer, ReachesWhole}
 use Rattle.lx_ere.specs.Matching.{Matches, Repeats, no_names}
 use Rattle.lx_ere.specs.Regex.{Regex, nil, one_of, then, or, times, named}
 use Rattle.lx_lex.proofs.Walking.{IsState, after_is, rule_at, walk_is}
-use Rattle.lx_lex.specs.Arrays.{row_of, target_word}
+use Rattle.lx_lex.specs.Arrays.{row_of}
 use Rattle.lx_lex.specs.Cuts.{IsCutSpec, Part, part_rule, part_rules, parts_of}
 use Rattle.lx_lex.specs.Translation.{FileRule}
-use Rattle.lx_lex.specs.Walking.{FindParts, FindsPart, numbered_rule, numbers_of, rule_from, walk}
-use Rattle.lx_rules.specs.Choice.{Fits, IsActive, SpecNames, reach}
+use Rattle.lx_lex.specs.Walking.{FindParts, numbered_rule, numbers_of, rule_from}
+use Rattle.lx_rules.specs.Choice.{IsActive, SpecNames, reach}
 use Rattle.lx_rules.specs.Limits.{max_name_depth}
-use Rattle.lx_rules.specs.Names.{DefinedMatches, NameMatches}
+use Rattle.lx_rules.specs.Names.{NameMatches}
 use Rattle.lx_rules.specs.Plain.{PlainDefinition, PlainRule, PlainSpec}
 use Rattle.lx_tables.specs.Model.{AreTablesOf, IsTable, Table}
 

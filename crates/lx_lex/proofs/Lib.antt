@@ -1,3 +1,4 @@
+mod AllRules
 mod CutParts
 mod Parts
 mod Plain

@@ -1,6 +1,5 @@
 -- The rules of parts, one file rule after the other.
-use Rattle.std.proofs.Common.{ℕ, ◌≡◌, ◌+◌, Bool, true, false, List, [], ◌∷◌, ◌++◌, Option, Some, None, length, refl, sym, ◌∙◌, ap, arith}
-use Rattle.std.proofs.lemmas.List.{length-append}
+use Rattle.std.proofs.Common.{ℕ, ◌≡◌, ◌+◌, Bool, true, false, List, [], ◌∷◌, ◌++◌, Option, Some, None, length, refl, ◌∙◌, ap, arith}
 use Rattle.lx_ere.specs.Regex.{Regex}
 use Rattle.lx_flex_pattern.specs.Reading.{FlexReading}
 use Rattle.lx_lex.specs.Cuts.{Part, cut_of, is_varying, part_rule, part_rules, parts_before, parts_of, rule_parts, with_parts}

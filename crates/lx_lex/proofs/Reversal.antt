@@ -1,7 +1,7 @@
 -- The reversed expression matches the reversed texts.
-use Rattle.std.proofs.Common.{ℕ, zero, suc, ◌≡◌, List, [], ◌∷◌, ◌++◌, reverse, Option, Some, None, inl, inr, refl, sym, ◌∙◌, ap, ap₂, subst, append_assoc, append-nil}
+use Rattle.std.proofs.Common.{ℕ, zero, suc, ◌≡◌, List, [], ◌++◌, reverse, inl, inr, refl, sym, ◌∙◌, ap, ap₂, subst, append_assoc, append-nil}
 use Rattle.std.proofs.lemmas.List.{reverse-append, reverse-reverse}
-use Rattle.lx_ere.specs.Matching.{Matches, Repeats, Splits, no_names}
+use Rattle.lx_ere.specs.Matching.{Matches, Repeats, no_names}
 use Rattle.lx_ere.specs.Regex.{Regex, nil, one_of, then, or, times, named}
 use Rattle.lx_lex.specs.Cuts.{reversed}
 

@@ -191,13 +191,15 @@ module _ (m : Machine) (h : IsMachine m) where
       let low = All-head (λ b. b < 256) b w bytes in
       after_is (target_of m s b) w (λ t e. h.closed s (slice_index m.classes b) t (states s refl) (h.below b low) e) (All-tail (λ b. b < 256) b w bytes)
 
-  pub rule_at : (o : Option ℕ) → IsState o → numbered_rule (slice_index (numbers_of m).rows (target_word m o + m.width)) ≡ accepted_at m o
-  rule_at None states = ap numbered_rule (ap (λ ns. get_or ns (0 + m.width) 0) (rows_read m h) ∙ zero_at (0 + m.width) (omega arith))
-  rule_at (Some s) states =
+  word_at : (o : Option ℕ) → IsState o → slice_index (numbers_of m).rows (target_word m o + m.width) ≡ rule_word (accepted_at m o)
+  word_at None states = ap (λ ns. get_or ns (0 + m.width) 0) (rows_read m h) ∙ zero_at (0 + m.width) (omega arith)
+  word_at (Some s) states =
       let place : m.width ≡ m.width + 0 = omega arith in
-      ap numbered_rule (ap (λ ns. get_or ns (row_of m s + m.width) 0) (rows_read m h)
-      ∙ (row_at s m.width (states s refl) (omega arith) ∙ (ap (λ (k : ℕ). get_or (row_words m s) k 0) place ∙ behind_steps s 0)))
-      ∙ rule_of_word (accepted_by m s)
+      ap (λ ns. get_or ns (row_of m s + m.width) 0) (rows_read m h)
+      ∙ (row_at s m.width (states s refl) (omega arith) ∙ (ap (λ (k : ℕ). get_or (row_words m s) k 0) place ∙ behind_steps s 0))
+
+  pub rule_at : (o : Option ℕ) → IsState o → numbered_rule (slice_index (numbers_of m).rows (target_word m o + m.width)) ≡ accepted_at m o
+  rule_at o states = ap numbered_rule (word_at o states) ∙ rule_of_word (accepted_at m o)
 
   first_at : (c : ℕ) (begin : Bool) → c < length m.starts → slice_index (numbers_of m).first (c * 2 + number_of_flag begin) ≡ row_of m (start_of m c begin)
   first_at c begin l =
@@ -211,13 +213,24 @@ module _ (m : Machine) (h : IsMachine m) where
         chosen true = let same : 0 + c ≡ c = omega arith in ap (λ (s : ℕ). row_of m (start_of m s true)) same
         chosen false = let same : 0 + c ≡ c = omega arith in ap (λ (s : ℕ). row_of m (start_of m s false)) same
 
+  walked_place : (c : ℕ) (begin : Bool) (w : List ℕ) → c < length m.starts → All (λ b. b < 256) w →
+      walk (numbers_of m) (slice_index (numbers_of m).first (c * 2 + number_of_flag begin)) w ≡ target_word m (state_after m (Some (start_of m c begin)) w)
+  walked_place c begin w l bytes =
+      let states : IsState (Some (start_of m c begin)) = λ s e. subst (λ (t : ℕ). t < state_count m) (cc) (h.starts c begin l) in
+      ap (λ (place : ℕ). walk (numbers_of m) place w) (first_at c begin l) ∙ walk_is (Some (start_of m c begin)) w states bytes
+
+  walked_after : (c : ℕ) (begin : Bool) (w : List ℕ) → c < length m.starts → All (λ b. b < 256) w → IsState (state_after m (Some (start_of m c begin)) w)
+  walked_after c begin w l bytes = after_is (Some (start_of m c begin)) w (λ s e. subst (λ (t : ℕ). t < state_count m) (cc) (h.starts c begin l)) bytes
+
+  -- the number in the rule column of the row to which a text leads
+  pub walked_word : (c : ℕ) (begin : Bool) (w : List ℕ) → c < length m.starts → All (λ b. b < 256) w →
+      slice_index (numbers_of m).rows (walk (numbers_of m) (slice_index (numbers_of m).first (c * 2 + number_of_flag begin)) w + m.width) ≡ rule_word (answer m c begin w)
+  walked_word c begin w l bytes =
+      ap (λ (place : ℕ). slice_index (numbers_of m).rows (place + m.width)) (walked_place c begin w l bytes)
+      ∙ word_at (state_after m (Some (start_of m c begin)) w) (walked_after c begin w l bytes)
+
   walked : (c : ℕ) (begin : Bool) (w : List ℕ) → c < length m.starts → All (λ b. b < 256) w → walked_rule (numbers_of m) c begin w ≡ answer m c begin w
-  walked c begin w l bytes =
-      let start = start_of m c begin in
-      let states : IsState (Some start) = λ s e. subst (λ (t : ℕ). t < state_count m) (cc) (h.starts c begin l) in
-      ap (λ (place : ℕ). numbered_rule (slice_index (numbers_of m).rows (walk (numbers_of m) place w + m.width))) (first_at c begin l)
-      ∙ (ap (λ (place : ℕ). numbered_rule (slice_index (numbers_of m).rows (place + m.width))) (walk_is (Some start) w states bytes)
-      ∙ rule_at (state_after m (Some start) w) (after_is (Some start) w states bytes))
+  walked c begin w l bytes = ap numbered_rule (walked_word c begin w l bytes) ∙ rule_of_word (answer m c begin w)
 
   sentinel_is : slice_index (numbers_of m).classes 0 ≡ end_class m
   sentinel_is = ap (λ ns. get_or ns 0 0) (classes_read m h) ∙ class_at 0 (omega arith)

@@ -26,9 +26,9 @@ end_class m = m.width + 1
 abbrev pub class_word : Machine → ℕ → ℕ
 class_word m b = if b == 0 then end_class m else slice_index m.classes b
 
--- no word of a row is greater
-abbrev pub greatest_word : Table → ℕ
-greatest_word table = max (row_width table.machine * state_count table.machine) (length table.rules)
+-- no word of a row is greater, if the states accept numbers below `numbers`
+abbrev pub greatest_word : Machine → ℕ → ℕ
+greatest_word m numbers = max (row_width m * state_count m) numbers
 
 -- a number of an initializer, and its comma
 abbrev pub entry_text : ℕ → List ℕ
@@ -67,25 +67,26 @@ named prefix name = prefix ++ name ++ codes "[] = {\n"
 abbrev pub class_array : List ℕ → Machine → List ℕ
 class_array prefix m = head_text (end_class m) (named prefix (codes "class")) ++ class_entries m ++ codes "0};\n"
 
-abbrev pub row_array : List ℕ → Table → List ℕ
-row_array prefix table = head_text (greatest_word table) (named prefix (codes "rows")) ++ rows_text table.machine ++ codes "0};\n"
+abbrev pub row_array : List ℕ → Machine → ℕ → List ℕ
+row_array prefix m numbers = head_text (greatest_word m numbers) (named prefix (codes "rows")) ++ rows_text m ++ codes "0};\n"
 
-abbrev pub start_array : List ℕ → Table → List ℕ
-start_array prefix table = head_text (greatest_word table) (named prefix (codes "first")) ++ start_lines table.machine ++ codes "0};\n"
+abbrev pub start_array : List ℕ → Machine → ℕ → List ℕ
+start_array prefix m numbers = head_text (greatest_word m numbers) (named prefix (codes "first")) ++ start_lines m ++ codes "0};\n"
 
--- the classes of bytes, the rows of states, and the starts of conditions; the names of the arrays begin with the prefix
-unfoldable pub arrays_text : List ℕ → Table → List ℕ
-arrays_text prefix table = class_array prefix table.machine ++ row_array prefix table ++ start_array prefix table
+-- the classes of bytes, the rows of states, and the starts of conditions, of an automaton whose states accept numbers below `numbers`; the names of the arrays
+-- begin with the prefix
+unfoldable pub arrays_text : List ℕ → Machine → ℕ → List ℕ
+arrays_text prefix m numbers = class_array prefix m ++ row_array prefix m numbers ++ start_array prefix m numbers
 
 -- The text has the arrays of the table, one after the other.
 pub record HasArrays (table : Table) (text : List ℕ) : Type 0 where
   pub before : List ℕ
   pub after : List ℕ
-  pub parts : text ≡ before ++ (arrays_text (codes "yy_") table ++ after)
+  pub parts : text ≡ before ++ (arrays_text (codes "yy_") table.machine (length table.rules) ++ after)
 
 -- the classes of bytes and the rows of states of a table that finds the ends of tokens
 unfoldable pub cut_arrays_text : Table → List ℕ
-cut_arrays_text table = class_array (codes "yy_cut_") table.machine ++ row_array (codes "yy_cut_") table
+cut_arrays_text table = class_array (codes "yy_cut_") table.machine ++ row_array (codes "yy_cut_") table.machine (length table.rules)
 
 -- The text has these arrays of the table.
 pub record HasCutArrays (table : Table) (text : List ℕ) : Type 0 where

@@ -1,11 +1,15 @@
 //! Laws of the printed arrays, as C reads them, and of the parts of matches.
 
-ghost use Rattle.std.specs.Prelude.{◌≡◌, ◌↔◌, List, Option, ℕ, reverse};
+ghost use Rattle.std.specs.Prelude.{◌≡◌, ◌≤◌, ◌↔◌, List, Option, ℕ, length, reverse};
+ghost use Rattle.lx_automaton.specs.Automata.{IsMachine, Machine};
+ghost use Rattle.lx_automaton.specs.Lists.{IsListAutomatonOf};
 ghost use Rattle.lx_ere.specs.Matching.{Matches, no_names};
 ghost use Rattle.lx_ere.specs.Regex.{Regex};
 ghost use Rattle.lx_lex.specs.Cuts.{IsCutSpec, reversed};
+ghost use Rattle.lx_lex.specs.Lists.{FindAllRules, HasSmallPlaces};
 ghost use Rattle.lx_lex.specs.Translation.{FileRule};
 ghost use Rattle.lx_lex.specs.Walking.{FindParts, FindRules};
+ghost use Rattle.lx_rules.specs.Limits.{max_rules};
 ghost use Rattle.lx_rules.specs.Plain.{PlainSpec};
 ghost use Rattle.lx_tables.specs.Model.{AreTablesOf, IsTable, Table};
 
@@ -13,6 +17,14 @@ ghost use Rattle.lx_tables.specs.Model.{AreTablesOf, IsTable, Table};
 pub fn arrays_find_rules()
     ensures { (spec : PlainSpec) (table : Table) → IsTable table → AreTablesOf spec table
         → FindRules spec table }
+{}
+
+/// States a law: after each text, the walk over the numbers of the arrays for `REJECT` finds all rules of the specification that match the text, in
+/// ascending order (POSIX.1-2017, XCU `lex`, "Actions in lex": `REJECT`).
+pub fn arrays_find_all_rules()
+    ensures { (spec : PlainSpec) (m : Machine) (lists : List (List ℕ)) → IsMachine m
+        → IsListAutomatonOf spec m lists → length spec.rules ≤ max_rules → HasSmallPlaces lists
+        → FindAllRules spec m lists }
 {}
 
 /// States a law: the walk over the arrays for the ends of tokens tells, for each text that isn't empty, whether the token of a rule matches it, and

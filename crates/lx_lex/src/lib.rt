@@ -4,6 +4,7 @@
 mod actions;
 mod arrays;
 pub mod laws;
+mod list_arrays;
 pub mod outline;
 pub mod printing;
 mod skeleton_calls;
@@ -14,6 +15,6 @@ mod template;
 pub mod translating;
 
 pub use crate::outline::{FileOutline, MatchCut, split};
-pub use crate::printing::{PrintOptions, header_of, scanner_of};
+pub use crate::printing::{PrintOptions, ScannerTables, header_of, scanner_of};
 pub use crate::source_names::{SourceName, place_in};
 pub use crate::translating::{cut_specification_of, specification_of};

@@ -198,6 +198,15 @@ impl FileOutline<'_> {
         false
     }
 
+    /// Returns true if the actions use `REJECT`, or the file has the option of this name. `%option noreject` hides it.
+    pub fn has_reject(&self) -> bool {
+        let options = &self.declared.options;
+        if options.place_of(b"reject").is_some() {
+            return options.is_on(b"reject");
+        }
+        self.actions_have(b"REJECT")
+    }
+
     /// Returns true if a rule has to begin at the start of a line.
     pub fn has_line_begin(&self) -> bool {
         for rule in self.rules.as_slice() {

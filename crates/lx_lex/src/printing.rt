@@ -1,11 +1,12 @@
 //! A scanner in C and its header, as texts.
 
-ghost use Rattle.std.specs.Prelude.{IfOk, IfSome, ◌++◌, ◌≡◌};
-ghost use Rattle.lx_lex.specs.Arrays as arrays;
-ghost use Rattle.lx_lex.specs.Arrays.{HasArrays, HasCutArrays};
+ghost use Rattle.std.specs.Prelude.{codes, length, IfOk, IfSome, ◌++◌, ◌≡◌};
+ghost use Rattle.lx_lex.specs.Arrays.{HasArrays, HasCutArrays, arrays_text, cut_arrays_text};
+ghost use Rattle.lx_lex.specs.Lists.{HasListArrays, HasSmallPlaces, list_arrays_text};
 
 use crate::actions::{CodePlaces, push_actions};
 use crate::arrays::{arrays_of, cut_arrays_of, lines_in, start_row};
+use crate::list_arrays::list_arrays_of;
 use crate::outline::{FileOutline, MatchCut};
 use crate::skeleton_calls::{
     ACCESS, ACCESS_LINES, CREATE, DELETE, DESTROY, FATAL, MAIN, MEMORY, POSITION, SCAN, SCAN_BYTES,
@@ -16,10 +17,12 @@ use crate::skeleton_head::{
     SYSTEM, TEXT_MACROS, TYPES, VARIABLES,
 };
 use crate::skeleton_scan::{
-    ACCEPT, CUT, END_OF_FILE, GROW, INPUT, READ, REFILL, STEPS, TAKE, UNPUT, WALK, YYLEX, YYLEX_END,
+    ACCEPT, CUT, END_OF_FILE, GROW, INPUT, READ, REFILL, REJECT, STEPS, TAKE, UNPUT, WALK, YYLEX,
+    YYLEX_END,
 };
 use crate::source_names::SourceName;
 use crate::template::{Environment, Output, push_template};
+use lx_automaton::ListAutomaton;
 use lx_c::pushing::push_number_then;
 use lx_tables::Tables;
 use std::alloc::{AllocError, Global};
@@ -33,6 +36,17 @@ pub struct PrintOptions<'a> {
     pub printed: &'a [u8],
     /// Macros of `-D`, each a name or `name=value`.
     pub macros: &'a [&'a str],
+}
+
+/// The tables that a scanner is printed of.
+#[derive(Clone, Copy)]
+pub struct ScannerTables<'t> {
+    /// Tables of the rules.
+    pub tables: &'t Tables,
+    /// Tables that find the ends of tokens with trailing context of several lengths, if there are such rules.
+    pub cut_tables: Option<&'t Tables>,
+    /// All rules that match after each text, if the actions use `REJECT`.
+    pub lists: Option<&'t ListAutomaton>,
 }
 
 /// Returns the options of a file, as its templates ask for them.
@@ -53,6 +67,7 @@ fn environment_of<'a>(
     environment.add(b"cut", outline.has_cut())?;
     let joins = outline.actions_have(b"yymore") && options.place_of(b"yymore").is_none();
     environment.add(b"yymore", joins)?;
+    environment.add(b"reject", outline.has_reject())?;
     Ok(environment)
 }
 
@@ -187,6 +202,14 @@ fn push_cut_macros(output: &mut Output, tables: &Tables) -> Result<(), AllocErro
     push_define(output, b"YY_CUT_RULE_COLUMN", u64::from(tables.classes()))
 }
 
+/// Appends the numbers that the arrays for `REJECT` are read by.
+fn push_list_macros(output: &mut Output, lists: &ListAutomaton) -> Result<(), AllocError> {
+    let automaton = &lists.automaton;
+    output.push(b"\n")?;
+    push_define(output, b"YY_REJECT_NUL_CLASS", u64::from(automaton.class(0)))?;
+    push_define(output, b"YY_REJECT_LIST_COLUMN", u64::from(automaton.classes()))
+}
+
 /// Appends the case that cuts the match of a rule.
 fn push_fixed_cut(
     output: &mut Output,
@@ -317,6 +340,7 @@ fn push_yylex(
     if cut_tables.is_some() {
         push_template(alloc, output, environment, CUT)?;
     }
+    push_if(alloc, output, environment, b"reject", &[REJECT])?;
     push_template(alloc, output, environment, YYLEX)?;
     places.push_all_code(output, outline.first_code.as_slice())?;
     push_all(alloc, output, environment, &[WALK, END_OF_FILE, ACCEPT])?;
@@ -384,17 +408,20 @@ fn places_of<'a>(
     }
 }
 
-/// Returns the part of a scanner between its arrays and those for the ends of tokens.
+/// Returns the part of a scanner between the arrays of its rules and the other arrays.
 fn middle_of(
     alloc: Global,
     environment: &Environment,
     outline: &FileOutline,
-    cut_tables: Option<&Tables>,
+    tables: ScannerTables,
 ) -> Result<Output, AllocError> {
     let mut output = Output::after(alloc, 0);
     push_rule_arrays(&mut output, environment, outline)?;
-    if let Some(tables) = cut_tables {
+    if let Some(tables) = tables.cut_tables {
         push_cut_macros(&mut output, tables)?;
+    }
+    if let Some(lists) = tables.lists {
+        push_list_macros(&mut output, lists)?;
     }
     Ok(output)
 }
@@ -421,7 +448,7 @@ fn rest_of(
 /// Returns the arrays that find the ends of tokens, or the empty text if none is wanted.
 fn cut_arrays_or_none(alloc: Global, tables: Option<&Tables>) -> Result<Vec<u8>, AllocError>
     ensures { IfOk result (λ text.
-        IfSome tables.entry (λ t. text.items ≡ arrays.cut_arrays_text t.now)) }
+        IfSome tables.entry (λ t. text.items ≡ cut_arrays_text t.now)) }
 {
     match tables {
         Some(tables) => cut_arrays_of(alloc, tables),
@@ -429,41 +456,96 @@ fn cut_arrays_or_none(alloc: Global, tables: Option<&Tables>) -> Result<Vec<u8>,
     }
 }
 
-/// Joins the parts of a scanner: the arrays of its automaton, and those for the ends of tokens, each between two others.
+/// Returns the arrays of the rules that match after each text, or the empty text if none are wanted.
+fn list_arrays_or_none(
+    alloc: Global,
+    lists: Option<&ListAutomaton>,
+) -> Result<Vec<u8>, AllocError>
+    ensures arrays { IfOk result (λ text.
+        IfSome lists.entry (λ l. text.items ≡ list_arrays_text l.now.automaton l.now.lists)) }
+    ensures small { IfOk result (λ _. IfSome lists.entry (λ l. HasSmallPlaces l.now.lists)) }
+{
+    match lists {
+        Some(lists) => list_arrays_of(alloc, lists),
+        None => Ok(Vec::new(alloc)),
+    }
+}
+
+/// The arrays of a scanner.
+#[derive(Drop)]
+struct ScannerArrays {
+    rules: Vec<u8>,
+    /// Arrays for the ends of tokens.
+    cuts: Vec<u8>,
+    /// Arrays for `REJECT`.
+    lists: Vec<u8>,
+}
+
+/// Returns the arrays of tables.
+fn scanner_arrays(alloc: Global, tables: ScannerTables) -> Result<ScannerArrays, AllocError>
+    ensures rules { IfOk result (λ arrays. arrays.rules.items
+        ≡ arrays_text (codes "yy_") tables.entry.tables.now.machine (length tables.entry.tables.now.rules)) }
+    ensures cuts { IfOk result (λ arrays.
+        IfSome tables.entry.cut_tables (λ t. arrays.cuts.items ≡ cut_arrays_text t.now)) }
+    ensures lists { IfOk result (λ arrays.
+        IfSome tables.entry.lists (λ l. arrays.lists.items ≡ list_arrays_text l.now.automaton l.now.lists)) }
+    ensures small { IfOk result (λ _. IfSome tables.entry.lists (λ l. HasSmallPlaces l.now.lists)) }
+{
+    Ok(ScannerArrays {
+        rules: arrays_of(alloc, tables.tables)?,
+        cuts: cut_arrays_or_none(alloc, tables.cut_tables)?,
+        lists: list_arrays_or_none(alloc, tables.lists)?,
+    })
+}
+
+/// Joins the parts of a scanner: its arrays and the texts between them.
 fn joined(
     head: Output,
-    arrays: &[u8],
+    arrays: &ScannerArrays,
     middle: &Output,
-    cut_arrays: &[u8],
     rest: &Output,
 ) -> Result<Vec<u8>, AllocError>
-    ensures arrays { IfOk result (λ text. text.items ≡ head.text.items
-        ++ (arrays.now ++ (middle.now.text.items ++ cut_arrays.now ++ rest.now.text.items))) }
-    ensures cut { IfOk result (λ text. text.items
-        ≡ head.text.items ++ arrays.now ++ middle.now.text.items
-        ++ (cut_arrays.now ++ rest.now.text.items)) }
+    ensures rules { IfOk result (λ text. text.items ≡ head.text.items ++ (arrays.now.rules.items
+        ++ (middle.now.text.items ++ arrays.now.cuts.items ++ arrays.now.lists.items ++ rest.now.text.items))) }
+    ensures cuts { IfOk result (λ text. text.items
+        ≡ head.text.items ++ arrays.now.rules.items ++ middle.now.text.items
+        ++ (arrays.now.cuts.items ++ (arrays.now.lists.items ++ rest.now.text.items))) }
+    ensures lists { IfOk result (λ text. text.items
+        ≡ head.text.items ++ arrays.now.rules.items ++ middle.now.text.items ++ arrays.now.cuts.items
+        ++ (arrays.now.lists.items ++ rest.now.text.items)) }
 {
     let Output { text, .. } = head;
     let mut text = text;
-    text.extend_from_slice(arrays)?;
+    text.extend_from_slice(arrays.rules.as_slice())?;
     text.extend_from_slice(middle.text.as_slice())?;
-    text.extend_from_slice(cut_arrays)?;
+    text.extend_from_slice(arrays.cuts.as_slice())?;
+    text.extend_from_slice(arrays.lists.as_slice())?;
     text.extend_from_slice(rest.text.as_slice())?;
     Ok(text)
 }
 
-/// Returns a scanner in C of a file and the tables of its rules. It has the arrays of the automaton, and those of `cut_tables`, which find the ends of
-/// tokens with trailing context of several lengths.
+/// Returns the number of lines before the rest of a scanner.
+fn lines_before_rest(head: &mut Output, arrays: &ScannerArrays, middle: &Output) -> u32 {
+    head.line()
+        .saturating_sub(1)
+        .saturating_add(lines_in(arrays.rules.as_slice()))
+        .saturating_add(lines_in(middle.text.as_slice()))
+        .saturating_add(lines_in(arrays.cuts.as_slice()))
+        .saturating_add(lines_in(arrays.lists.as_slice()))
+}
+
+/// Returns a scanner in C of a file and its tables. It has the arrays of each of these.
 pub fn scanner_of<'a>(
     alloc: Global,
     outline: &FileOutline<'a>,
-    tables: &Tables,
-    cut_tables: Option<&Tables>,
+    tables: ScannerTables,
     options: PrintOptions<'a>,
 ) -> Result<Vec<u8>, AllocError>
-    ensures arrays { IfOk result (λ text. HasArrays tables.now text.items) }
-    ensures cut { IfOk result (λ text.
-        IfSome cut_tables.entry (λ t. HasCutArrays t.now text.items)) }
+    ensures rules { IfOk result (λ text. HasArrays tables.entry.tables.now text.items) }
+    ensures cuts { IfOk result (λ text.
+        IfSome tables.entry.cut_tables (λ t. HasCutArrays t.now text.items)) }
+    ensures lists { IfOk result (λ text.
+        IfSome tables.entry.lists (λ l. HasListArrays l.now.automaton l.now.lists text.items)) }
 {
     let environment = environment_of(alloc, outline, false)?;
     let places = places_of(outline, &environment, options);
@@ -473,27 +555,22 @@ pub fn scanner_of<'a>(
         &mut head,
         &environment,
         outline,
-        tables,
+        tables.tables,
         options,
         places,
     )?;
-    let arrays = arrays_of(alloc, tables, b"yy_")?;
-    let middle = middle_of(alloc, &environment, outline, cut_tables)?;
-    let cut_arrays = cut_arrays_or_none(alloc, cut_tables)?;
-    let lines = head
-        .line()
-        .saturating_sub(1)
-        .saturating_add(lines_in(arrays.as_slice()))
-        .saturating_add(lines_in(middle.text.as_slice()))
-        .saturating_add(lines_in(cut_arrays.as_slice()));
-    let rest = rest_of(alloc, &environment, outline, cut_tables, places, lines)?;
-    joined(
-        head,
-        arrays.as_slice(),
-        &middle,
-        cut_arrays.as_slice(),
-        &rest,
-    )
+    let arrays = scanner_arrays(alloc, tables)?;
+    let middle = middle_of(alloc, &environment, outline, tables)?;
+    let lines = lines_before_rest(&mut head, &arrays, &middle);
+    let rest = rest_of(
+        alloc,
+        &environment,
+        outline,
+        tables.cut_tables,
+        places,
+        lines,
+    )?;
+    joined(head, &arrays, &middle, &rest)
 }
 
 /// Returns the header of a scanner.

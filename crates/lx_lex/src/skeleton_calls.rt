@@ -598,6 +598,10 @@ int yylex_destroy(@p)
     if (@gyy_start_stack)
         yyfree(@gyy_start_stack@A);
 %end
+%if reject
+    if (@gyy_kept_rows)
+        yyfree(@gyy_kept_rows@A);
+%end
 %if reentrant
     yyfree(yyg, yyscanner);
 %else
@@ -606,6 +610,10 @@ int yylex_destroy(@p)
 %if stack
     yy_start_stack = NULL;
     yy_start_stack_ptr = yy_start_stack_depth = 0;
+%end
+%if reject
+    yy_kept_rows = NULL;
+    yy_kept_max = 0;
 %end
     yy_c_buf_p = NULL;
     yy_init = 0;

@@ -420,6 +420,10 @@ static int yy_more_flag = 0, yy_more_len = 0;
 static int *yy_start_stack = NULL;
 static int yy_start_stack_ptr = 0, yy_start_stack_depth = 0;
 %end
+%if reject
+static unsigned int *yy_kept_rows = NULL; /* the row after each byte of a match */
+static size_t yy_kept_max = 0;
+%end
 %end
 
 "#;
@@ -478,6 +482,10 @@ struct yyguts_t {
 %if stack
     int *yy_start_stack;
     int yy_start_stack_ptr, yy_start_stack_depth;
+%end
+%if reject
+    unsigned int *yy_kept_rows; /* the row after each byte of a match */
+    size_t yy_kept_max;
 %end
 %if bison-bridge
     YYSTYPE *yylval_r;
@@ -650,7 +658,14 @@ static int yy_unused yy_top_state(@p);
 #ifndef YY_RULE_SETUP
 #define YY_RULE_SETUP YY_USER_ACTION
 #endif
-%if !reject
+%if reject
+/* Goes on with the next rule that matches the text, or a part at its start. Works in actions. */
+#define REJECT \
+    { \
+        *@gyy_c_buf_p = @gyy_hold_char; \
+        goto yy_find_rule; \
+    }
+%else
 #define REJECT reject_used_but_not_detected
 %end
 

@@ -98,6 +98,55 @@ static char *yy_cut_match(char *yy_from, char *yy_to, unsigned int yy_token_row,
 
 "#;
 
+pub(crate) const REJECT: &[u8] = br#"/* Walks over a match again, and keeps the row after each of its bytes. */
+static void yy_keep_rows(unsigned int yy_row, const char *yy_from, size_t yy_length@P)
+{
+%if reentrant
+    struct yyguts_t *yyg = (struct yyguts_t *)yyscanner;
+%end
+    size_t yy_i;
+
+    if (yy_length > @gyy_kept_max) {
+        if (@gyy_kept_rows)
+            yyfree(@gyy_kept_rows@A);
+        @gyy_kept_max = 0;
+        @gyy_kept_rows = (unsigned int *)yyalloc(2 * yy_length * sizeof *@gyy_kept_rows@A);
+        if (!@gyy_kept_rows)
+            YY_FATAL_ERROR("out of dynamic memory in yylex()");
+        @gyy_kept_max = 2 * yy_length;
+    }
+    for (yy_i = 0; yy_i < yy_length; ++yy_i) {
+        yy_row = yy_reject_rows[yy_row + (yy_from[yy_i] ? yy_reject_class[(unsigned char)yy_from[yy_i]] : YY_REJECT_NUL_CLASS)];
+        @gyy_kept_rows[yy_i] = yy_row;
+    }
+}
+
+/* Returns the rule that comes after the present one: the next that matches the same text, or the first that matches a shorter one. Sets the text's length
+   and the rule's place in yy_lists. That place is 0 for the rule of the match, whose condition had this number. */
+static int yy_next_rule(int yy_condition, const char *yy_from, size_t *yy_length, unsigned int *yy_place@P)
+{
+%if reentrant
+    struct yyguts_t *yyg = (struct yyguts_t *)yyscanner;
+%end
+    if (*yy_length == 0)
+        YY_FATAL_ERROR("REJECT was used where no rule had matched");
+    if (*yy_place == 0) {
+        yy_keep_rows(yy_reject_first[yy_condition], yy_from, *yy_length@A);
+        *yy_place = yy_list_places[yy_reject_rows[@gyy_kept_rows[*yy_length - 1] + YY_REJECT_LIST_COLUMN]];
+    }
+    ++*yy_place;
+    while (yy_lists[*yy_place] == 0) { /* the end of a list */
+        if (--*yy_length == 0) {
+            *yy_length = 1;
+            return YY_DEFAULT_RULE;
+        }
+        *yy_place = yy_list_places[yy_reject_rows[@gyy_kept_rows[*yy_length - 1] + YY_REJECT_LIST_COLUMN]];
+    }
+    return (int)yy_lists[*yy_place];
+}
+
+"#;
+
 pub(crate) const YYLEX: &[u8] =
     br#"/* Returns what the action of a match returns, and YY_NULL at the end of the input. Actions that don't return go on with the next match. */
 YY_DECL
@@ -105,6 +154,11 @@ YY_DECL
     unsigned int yy_current_state, yy_next_state;
     char *yy_bp, *yy_cp; /* the match that is looked for, from yy_bp to before yy_cp */
     int yy_act;
+%if reject
+    int yy_match_start = 0; /* where the match began in yy_first */
+    size_t yy_match_length = 0; /* bytes that the rule matches, with its trailing context */
+    unsigned int yy_list_place = 0; /* place of the rule in yy_lists, or 0 before REJECT */
+%end
 %if reentrant
     struct yyguts_t *yyg = (struct yyguts_t *)yyscanner;
 %end
@@ -161,10 +215,21 @@ pub(crate) const WALK: &[u8] = br#"    for (;;) {
 %end
         *@gyy_c_buf_p = @gyy_hold_char;
         yy_bp = yy_cp = @gyy_c_buf_p;
+%if reject
+%if bol
+        yy_match_start = @gyy_start - 1 + (YY_AT_BOL() != 0);
+%else
+        yy_match_start = @gyy_start - 1;
+%end
+        yy_match_length = 0;
+        yy_list_place = 0;
+        yy_current_state = yy_first[yy_match_start];
+%else
 %if bol
         yy_current_state = yy_first[@gyy_start - 1 + (YY_AT_BOL() != 0)];
 %else
         yy_current_state = yy_first[@gyy_start - 1];
+%end
 %end
 
         /* Byte 0 leads nowhere, so the walk stops at the end of the text without counting. */
@@ -271,6 +336,31 @@ pub(crate) const ACCEPT: &[u8] =
                     }
                 }
             }
+%if reject
+            if (yy_act != YY_DEFAULT_RULE)
+                yy_match_length = (size_t)(yy_cp - yy_bp);
+            if (0) {
+            yy_find_rule: yy_unused; /* The action of the last rule used REJECT. */
+%if array
+                yy_bp = @gyytext_ptr;
+%if yymore
+                @gyy_more_offset = @gyy_prev_more_offset;
+%end
+%else
+%if yymore
+                yy_bp = @gyytext_ptr + @gyy_more_len;
+%else
+                yy_bp = @gyytext_ptr;
+%end
+%end
+%if yylineno
+                while (yy_newline[yy_act] && @gyy_c_buf_p > yy_bp)
+                    yylineno -= *--@gyy_c_buf_p == '\n';
+%end
+                yy_act = yy_next_rule(yy_match_start, yy_bp, &yy_match_length, &yy_list_place@A);
+                yy_cp = yy_bp + yy_match_length;
+            }
+%end
 "#;
 
 pub(crate) const TAKE: &[u8] = br#"%if array

@@ -64,6 +64,14 @@ impl Tables {
         }
     }
 
+    /// Returns the automaton.
+    pub fn automaton(&self) -> &Automaton
+        ensures machine { result.now ≡ self.now.machine }
+        ensures table { IsTable self.now }
+    {
+        &self.automaton
+    }
+
     /// Returns the number of start conditions, 1 to 64.
     pub fn conditions(&self) -> u16
         ensures count { result ≡ length self.now.machine.starts }

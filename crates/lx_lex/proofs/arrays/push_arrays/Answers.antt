@@ -6,6 +6,6 @@ pub returns : goal.returns
 unfolding arrays_text
 returns c =
     let prefix = c.args.prefix.now in
-    let table = c.args.tables.now in
-    then_3 c.push_start_array.result _ _ _ _ (class_array prefix table.machine) (row_array prefix table) (start_array prefix table)
+    let m = c.args.automaton.now in
+    then_3 c.push_start_array.result _ _ _ _ (class_array prefix m) (row_array prefix m c.args.numbers) (start_array prefix m c.args.numbers)
     c.in_ok-push_class_array.ensures c.in_ok-push_row_array.ensures c.push_start_array.ensures

@@ -8,6 +8,6 @@ use Rattle.lx_lex.proofs.arrays.push_rows.Goals as goal
 
 pub returns : goal.returns
 returns c =
-    let m = c.args.tables.now.machine in
+    let m = c.args.automaton.now in
     text_end _ _ _ (state_count m) _ c.loop-state.invariant (omega arith)
     ∙ append_assoc c.args.text.now.items (zero_entries m ++ codes "\n") (flat_map (row_text m) (range_with_len 0 (state_count m)))
