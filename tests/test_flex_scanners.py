@@ -3,6 +3,7 @@
 Each scanner compiles without a warning as C99 and as C++, by gcc and by clang. tests/flex-suite and tests/flex-fuzz compare more of them with flex.
 """
 import os
+import shutil
 import time
 
 from tests import support
@@ -13,7 +14,7 @@ COMPILERS = [("gcc", "-std=c99"), ("clang", "-std=c99"), ("g++", "-std=c++98"), 
 MAIN = "%%\nint main(void) { while (yylex() != 0) { } return 0; }\n"
 WORDS = "%option noyywrap\n%%\n[a-z]+ printf(\"<%s>\", yytext);\n[0-9]+ return 1;\n" + MAIN
 # Options, and words that a scanner with them is tried with.
-VARIANTS = [("", []), ("yylineno stack", []), ("array yylineno", []), ("debug", []), ("case-insensitive", []), ("prefix=\"foo\"", []),
+VARIANTS = [("", []), ("yylineno stack", []), ("array yylineno", []), ("reject", []), ("reject array", []), ("debug", []), ("case-insensitive", []), ("prefix=\"foo\"", []),
             ("nounput noinput nodefault nowarn", []), ("read", []), ("always-interactive", []), ("never-interactive", []), ("", ["-L"]), ("", ["-Cf"]), ("", ["-D", "A=1"])]
 # Files, their texts and what their scanners print.
 SCANNERS = [
@@ -43,9 +44,25 @@ SCANNERS = [
     ("a large interval before trailing context", "%option noyywrap\n%%\nx{512}/y* printf(\"[%d]\", (int)yyleng);\n" + MAIN, b"x" * 512 + b"yy", b"[512]yy"),
     ("a large interval in trailing context", "%option noyywrap nowarn\n%%\nx+/x{300} printf(\"[%d]\", (int)yyleng);\n" + MAIN, b"x" * 305, b"[5]" + b"x" * 300),
 ]
+# Rules whose actions use REJECT, their texts and what their scanners print; worked out by hand.
+REJECTING = [
+    ("words inside others", "she printf(\"(she)\"); REJECT;\nhe printf(\"(he)\"); REJECT\n.|\\n ECHO;\n", b"she he\n", b"(she)s(he)he (he)he\n"),
+    ("all texts at the start of another", "a |\nab |\nabc |\nabcd ECHO; REJECT;\n.|\\n ;\n", b"abcd\n", b"abcdabcaba"),
+    ("rules for one text", "[a-z]+ printf(\"1\"); REJECT;\n[a-z]+ printf(\"2\"); REJECT;\nab printf(\"3\");\n.|\\n ECHO;\n", b"abc", b"1212312c"),
+    ("the default rule", "ab? printf(\"<%s>\", yytext); REJECT;\n", b"ab", b"<ab><a>ab"),
+    ("trailing context of each rule", "ab/cd printf(\"<%s>\", yytext); REJECT;\nabc printf(\"(%s)\", yytext);\n", b"abcd", b"<ab>(abc)d"),
+    ("trailing context of several lengths", "ab*/b*c printf(\"<%s>\", yytext); REJECT;\nabb printf(\"(%s)\", yytext);\n", b"abbc", b"<abb>(abb)c"),
+    ("a condition that the action enters", "%x X\n%%\nab BEGIN(X); REJECT;\na printf(\"I\");\n<X>b printf(\"X\");\n", b"ab", b"IX"),
+    ("the start of a line", "^a |\naa printf(\"<%s>\", yytext); REJECT;\na printf(\".\");\n\\n ECHO;\n", b"aa\na", b"<aa><a>..\n<a>."),
+    ("lines", "%option yylineno\n%%\na\\nb REJECT;\na ;\n\\n printf(\"%d\", yylineno);\n", b"a\nb\na", b"2b3"),
+    ("kept text", "a yymore();\nbc printf(\"<%s>\", yytext); REJECT;\nb printf(\"(%s)\", yytext);\n", b"abc", b"<abc>(ab)c"),
+    ("bytes given back before", "abc yyless(1); REJECT;\nab printf(\"<%s>\", yytext);\n", b"abc", b"<ab>c"),
+    ("bytes 0 and 255", "[\\0\\xff]+ printf(\"[%d]\", (int)yyleng); REJECT;\n\\0 printf(\"0\");\n\\xff printf(\"F\");\n", b"\0\xff", b"[2][1]0[1]F"),
+]
+# Options that REJECT is tried with.
+REJECTING_WITH = ["", "array", "debug", "stack yylineno", "always-interactive"]
 # Files that are refused, and the first line that says why.
 REFUSED = [
-    ("REJECT", "%%\n\na REJECT;\n", "x.l:3:1: error: REJECT is not supported; write the other rule's pattern first"),
     ("no rules", "%option noyywrap\n", "x.l:2:1: error: there is no line %%; write one before the rules"),
     ("an unknown option", "%option noyywrap  what\n%%\n", "x.l:1:19: error: flex has no such %option; delete the word"),
     ("a scanner in C++", "%option c++\n%%\n", "x.l:1:9: error: C++ scanners (%option c++, yyclass) are not supported; a C++ compiler takes the scanner in C, so delete the word"),
@@ -91,6 +108,28 @@ class FlexScanners(Case):
             program = self.compiled(compiler, "-std=c99")
             self.expect(name, support.run(program, input=given).stdout, wanted)
 
+    def test_reject(self):
+        for name, rules, given, wanted in REJECTING:
+            head = "" if "%%" in rules else "%%\n"
+            for options in REJECTING_WITH:
+                self.write(f"%option noyywrap nounput noinput nowarn {options}\n{head}{rules}{MAIN}")
+                ended = self.flex("x.l")
+                self.expect(f"{name}, {options}: lx flex", (ended.returncode, ended.stderr), (0, ""))
+                for compiler, standard in COMPILERS[:1] if options else COMPILERS:
+                    if not shutil.which(compiler):
+                        self.leave_out(f"{name}: {compiler}", f"there is no {compiler}")
+                        continue
+                    self.expect(f"{name}, {options}: {compiler}", support.run(self.compiled(compiler, standard), input=given).stdout, wanted)
+
+    def test_reject_without_end(self):
+        self.write("%option noyywrap\n%%\n<<EOF>> REJECT;\n" + MAIN)
+        self.expect("REJECT at the end: lx flex", self.flex("x.l").returncode, 0)
+        ended = support.run(self.compiled(support.tool("gcc", "clang", "cc"), "-std=c99"), input=b"a")
+        self.expect("REJECT at the end", (ended.returncode, ended.stderr), (2, b"REJECT was used where no rule had matched\n"))
+        self.write("%option noyywrap noreject\n%%\na REJECT;\n" + MAIN)
+        text = self.flex("-t", "x.l").stdout
+        self.check("noreject", "REJECT reject_used_but_not_detected" in text)
+
     def test_variants(self):
         for options, words in VARIANTS:
             name = "lex.foo.c" if "prefix" in options else "lex.yy.c"
@@ -99,7 +138,7 @@ class FlexScanners(Case):
             ended = self.flex(*words, "x.l")
             self.expect(f"{options} {words}: lx flex", (ended.returncode, ended.stderr), (0, ""))
             for compiler, standard in COMPILERS:
-                if not any(os.access(os.path.join(folder, compiler), os.X_OK) for folder in os.environ["PATH"].split(":")):
+                if not shutil.which(compiler):
                     self.leave_out(f"{options} {words}: {compiler}", f"there is no {compiler}")
                     continue
                 program = self.compiled(compiler, standard, name)

@@ -267,7 +267,7 @@ x.l: accepted: 2 rules, 1 start condition, 2 states, 2 classes, 1 warning
             self.expect(f"{words}", (ended.returncode, ended.stderr, ended.stdout), (status, "", wanted))
         ended = self.lx("check", "--flex", "-q", input=HEAD + "a ;\na ;\n")
         self.expect("standard input", (ended.returncode, ended.stdout), (0, line.replace("x.l", "<stdin>")))
-        self.write("%%\n<A>a ;\na REJECT;\n")
+        self.write("%%\n<A>a ;\na BEGIN(A);\n")
         ended = self.lx("check", "--flex", "x.l")
         self.expect("a fault", (ended.returncode, ended.stderr, ended.stdout), (1, "", """\
 x.l:2:2: error: the start condition isn't declared; declare it with %s or %x

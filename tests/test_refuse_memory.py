@@ -135,7 +135,7 @@ REFUSED = {
     "E21": "%%\na |\n",
     "E30": "%%\n(a{128}){128}|b ;\n",
 }
-FILES = {"flex": FLEX, "scanner.l": SCANNER, "no-scanner.l": "%option what\n%%\n<A>a ;\nb(c ;\n", "warned.l": "%option nodefault\n%%\n[a-z]+ ;\nif ;\nx*/y ;\nab{2} ;\n", "no-flex": "%%\na/b ;\nc REJECT;\n", "first.tables": THREE_RULES_FIRST, "a": "a", "empty": "", "lines": "1\n2", "names": "a\nlines\n"}
+FILES = {"flex": FLEX, "scanner.l": SCANNER, "no-scanner.l": "%option what\n%%\n<A>a ;\nb(c ;\n", "warned.l": "%option nodefault\n%%\n[a-z]+ ;\nif ;\nx*/y ;\nab{2} ;\n", "rejecting.l": "%%\nab? REJECT;\na ;\n[ab]+ ;\n", "no-flex": "%%\na/b ;\nc REJECT;\n", "first.tables": THREE_RULES_FIRST, "a": "a", "empty": "", "lines": "1\n2", "names": "a\nlines\n"}
 
 SCANS = [["scan", "-j", "1"], ["scan", "-j", "4"]]
 HELP = [[], ["-h"], ["--help"], ["run", "-h"], ["gen", "-h"], ["scan", "-h"], ["up", "-h"]]
@@ -151,7 +151,7 @@ OTHERS = [
     ["explain"], ["explain", "E10"], ["show", "words.l"], ["show", "first.tables"], ["show", "E10.l"],
     ["import", "flex"], ["import", "-o", "target", "-c", "actions", "flex"], ["import", "no-flex"], ["import", "--lossy", "no-flex"],
     ["flex", "-tv", "scanner.l"], ["lex", "-t", "scanner.l", "words.l"], ["flex", "-t", "no-scanner.l"], ["flex", "-o", "scanner.c", "--header-file=scanner.h", "scanner.l"],
-    ["flex", "-t", "warned.l"], ["check", "--flex", "warned.l"], ["check", "--flex", "-q", "no-scanner.l"], ["check", "--flex", "-q", "cut"],
+    ["flex", "-t", "rejecting.l"], ["flex", "-t", "warned.l"], ["check", "--flex", "warned.l"], ["check", "--flex", "-q", "no-scanner.l"], ["check", "--flex", "-q", "cut"],
     ["flex", "--help"], ["flex", "--what"], ["flex", "gone"], ["flex", "cut"],
     ["none"], ["scan"], ["scan", "first.tables"], ["run", "-b", "0", "three-rules.l", "a"], ["gen", "a", "a"], ["scan", "-j", "9", "first.tables", "a"],
     ["run", "three-rules.l", "gone"], ["run", "gone", "a"], ["run", "cut", "a"], ["scan", "a", "a"], ["up", "three-rules.l"], ["up", "gone"],

@@ -2,9 +2,12 @@
 use Rattle.std.specs.Prelude.{◌≡◌, ◌⊎◌, ◌++◌, ℕ, Bool, true, false, if◌then◌else◌, nat_eq, ◌&&◌, ◌||◌, List, [], ◌∷◌, Option, Some, None, IfSome, is_some, codes}
 use Rattle.std.specs.Cmp.Lexicographic.{pointwise}
 use Rattle.std.specs.Io.KnownBytes.{Appends, Keeps}
+use Rattle.lx_automaton.specs.Lists.{IsListAutomatonOf}
+use Rattle.lx_automaton.specs.declared.lists.ListAutomaton.{ListAutomaton}
 use Rattle.lx_cli.specs.declared.version.TheConstants.{VERSION}
 use Rattle.lx_lex.specs.Arrays.{HasArrays, HasCutArrays}
 use Rattle.lx_lex.specs.Cuts.{IsCutSpec, parts_of}
+use Rattle.lx_lex.specs.Lists.{HasListArrays}
 use Rattle.lx_lex.specs.Translation.{FileRule, IsScannerSpec}
 use Rattle.lx_rules.specs.Plain.{PlainSpec, StartCondition}
 use Rattle.lx_tables.specs.Model.{AreTablesOf, Table}
@@ -70,7 +73,12 @@ pub record IsMade (spec : PlainSpec) (cuts : Option Table) : Type 0 where
   pub is_spec : IsScannerSpec conditions rules spec
   pub finds_ends : FindsEnds rules cuts
 
--- The text is a scanner. It has the arrays of the tables of such a specification, and those that find the ends of tokens, if there are any.
+-- a list automaton of the specification, if there is one
+abbrev pub FindsLists : PlainSpec → Option ListAutomaton → Type 0
+FindsLists spec lists = IfSome lists (λ l. IsListAutomatonOf spec l.automaton l.lists)
+
+-- The text is a scanner. It has the arrays of the tables of such a specification, those that find the ends of tokens, and those that find all rules for REJECT, if
+-- there are any.
 pub record IsScanner (text : List ℕ) : Type 0 where
   pub spec : PlainSpec
   pub cuts : Option Table
@@ -79,6 +87,9 @@ pub record IsScanner (text : List ℕ) : Type 0 where
   pub are_tables : AreTablesOf spec table
   pub has_arrays : HasArrays table text
   pub has_cut_arrays : IfSome cuts (λ t. HasCutArrays t text)
+  pub lists : Option ListAutomaton
+  pub are_lists : FindsLists spec lists
+  pub has_list_arrays : IfSome lists (λ l. HasListArrays l.automaton l.lists text)
 
 -- A scanner went to the output or to a file, and then a header to a file, if there is one.
 pub record IsScannerPrinted {T : Type 0} (places : T → List ℕ → List ℕ → T → Type 0) (before after : T) (old new : Option (List ℕ)) : Type 0 where

@@ -3,7 +3,7 @@
 ghost use Rattle.std.specs.Prelude.{◌<◌, ◌≤◌};
 
 use crate::target::TargetFault;
-use lx_auto::BuildFault;
+use lx_auto::{BuildFault, ListFault};
 use lx_flex::flags::FlagFault;
 use std::alloc::{AllocError, AllocFailed};
 use thiserror::Error;
@@ -32,6 +32,9 @@ pub(crate) enum ScannerFault<'a> {
     /// The automaton of the rules is too large.
     #[error("{0}")]
     Automaton(BuildFault),
+    /// There are too many lists of rules for `REJECT`.
+    #[error("REJECT: the rules that match a text form more than 4,096 different lists; write fewer rules that match the same texts")]
+    Lists,
     /// A file can't be read.
     #[error("cannot read {0}")]
     NotRead(&'a str),
@@ -53,7 +56,10 @@ impl ScannerFault<'_> {
         ensures known { result ≤ 5 }
     {
         match self {
-            ScannerFault::Faults | ScannerFault::Contexts | ScannerFault::Automaton(_) => 1,
+            ScannerFault::Faults
+            | ScannerFault::Contexts
+            | ScannerFault::Automaton(_)
+            | ScannerFault::Lists => 1,
             ScannerFault::Flags(_)
             | ScannerFault::NoCheckOption(_)
             | ScannerFault::Overwrites(_)
@@ -102,6 +108,15 @@ impl From<BuildFault> for ScannerFault<'_> {
         match fault {
             BuildFault::Memory => ScannerFault::Memory,
             _ => ScannerFault::Automaton(fault),
+        }
+    }
+}
+
+impl From<ListFault> for ScannerFault<'_> {
+    fn from(fault: ListFault) -> Self {
+        match fault {
+            ListFault::Build(fault) => ScannerFault::from(fault),
+            ListFault::TooManyLists => ScannerFault::Lists,
         }
     }
 }

@@ -6,15 +6,16 @@ ghost use Rattle.lx_lex.specs.views.{file_rule};
 ghost use Rattle.lx_rules.specs.views.Conditions.{condition_view};
 ghost use Rattle.lx_rules.specs.views.Specs.{spec_view};
 ghost use Rattle.lx_tables.specs.Model.{AreTablesOf};
-ghost use Rattle.lx_tool.specs.Scanners.{FindsEnds, IsMade};
+ghost use Rattle.lx_tool.specs.Scanners.{FindsEnds, FindsLists, IsMade};
 
 use crate::scanner_fault::ScannerFault;
 use crate::scanner_warnings::{warn_of_contexts, warn_of_tables};
-use lx_auto::build_merged;
+use lx_auto::{build_lists, build_merged};
+use lx_automaton::ListAutomaton;
 use lx_flex::file::FlexFile;
 use lx_flex::importing::conditions_of;
 use lx_flex::rules::FlexRule;
-use lx_flex::{ImportCause, Reports};
+use lx_flex::Reports;
 use lx_lex::{FileOutline, cut_specification_of, specification_of, split};
 use lx_rules::{Condition, Spec};
 use lx_tables::Tables;
@@ -29,6 +30,8 @@ pub(crate) struct MadeScanner<'a> {
     pub(crate) tables: Tables,
     /// Tables that find the ends of tokens with trailing context of several lengths.
     pub(crate) cut_tables: Option<Tables>,
+    /// All rules that match after each text, if the actions use `REJECT`.
+    pub(crate) lists: Option<ListAutomaton>,
 }
 
 /// Makes the tables of a specification.
@@ -67,16 +70,18 @@ fn specification_for<'a>(
     }
 }
 
-// Reports what a scanner can't do yet. Returns true if there is nothing of the kind.
-fn is_supported(outline: &FileOutline<'_>, reports: &mut Reports) -> Result<bool, AllocError> {
-    let mut supported = true;
-    for rule in outline.rules.as_slice() {
-        if outline.rule_has(rule, b"REJECT") {
-            supported = false;
-            reports.add(rule.place, ImportCause::RejectInScanner, true)?;
-        }
+// Makes the lists of rules that `REJECT` needs, if the actions use it.
+fn lists_of<'a>(
+    alloc: Global,
+    outline: &FileOutline<'_>,
+    spec: &Spec,
+) -> Result<Option<ListAutomaton>, ScannerFault<'a>>
+    ensures { IfOk result (λ made. FindsLists (spec_view spec.now) made) }
+{
+    if !outline.has_reject() {
+        return Ok(None);
     }
-    Ok(supported)
+    Ok(Some(build_lists(alloc, spec)?))
 }
 
 /// Makes the tables of a file, and adds the faults and warnings that they show.
@@ -87,22 +92,22 @@ pub(crate) fn made_of<'a, 's>(
 ) -> Result<MadeScanner<'s>, ScannerFault<'a>>
     ensures rules { IfOk result (λ made. IsMade (spec_view made.spec) made.cut_tables) }
     ensures tables { IfOk result (λ made. AreTablesOf (spec_view made.spec) made.tables) }
+    ensures lists { IfOk result (λ made. FindsLists (spec_view made.spec) made.lists) }
 {
     let conditions = conditions_of(alloc, &file.declared)?;
     let (outline, rules) = split(alloc, file)?;
-    if !is_supported(&outline, reports)? {
-        return Err(ScannerFault::Faults);
-    }
     let options = &outline.declared.options;
     warn_of_contexts(alloc, options, rules.as_slice(), reports)?;
     let cut_tables = cut_tables_of(alloc, rules.as_slice())?;
     let spec = specification_for(alloc, conditions, rules)?;
     let tables = tables_of(alloc, &spec)?;
-    warn_of_tables(alloc, &outline, &spec, &tables, reports)?;
+    let lists = lists_of(alloc, &outline, &spec)?;
+    warn_of_tables(alloc, &outline, &spec, &tables, lists.as_ref(), reports)?;
     Ok(MadeScanner {
         outline,
         spec,
         tables,
         cut_tables,
+        lists,
     })
 }

@@ -1,6 +1,7 @@
 //! Warnings on the rules of a file for lex or flex that its tables show.
 
 use lx_auto::{BuildFault, build_merged};
+use lx_automaton::ListAutomaton;
 use lx_ere::{Expr, Pattern};
 use lx_flex::importing::conditions_of;
 use lx_flex::lengths::{has_operator, matches_empty};
@@ -220,17 +221,38 @@ fn taker_of(
     })
 }
 
+// Returns true if `REJECT` can reach the rule with this number.
+fn is_listed(lists: Option<&ListAutomaton>, number: u16) -> bool {
+    let Some(ListAutomaton {
+        automaton: _,
+        lists,
+    }) = lists
+    else {
+        return false;
+    };
+    for list in 0..lists.count() {
+        if lists.list(list).contains(&number) {
+            return true;
+        }
+    }
+    false
+}
+
 // Adds warnings on rules that are never matched.
 fn warn_of_rules(
     alloc: Global,
     outline: &FileOutline<'_>,
     spec: &Spec,
     tables: &Tables,
+    lists: Option<&ListAutomaton>,
     reports: &mut Reports,
 ) -> Result<(), AllocError> {
     let places = places_of(alloc, outline)?;
     let mut left = MOST_EXPLAINED;
     for number in &never_chosen(alloc, tables)? {
+        if is_listed(lists, *number) {
+            continue;
+        }
         let place = place_at(&places, *number);
         let mut taker = Taker::Several(FilePlace::WHOLE);
         if 0 < left {
@@ -248,12 +270,13 @@ pub(crate) fn warn_of_tables(
     outline: &FileOutline<'_>,
     spec: &Spec,
     tables: &Tables,
+    lists: Option<&ListAutomaton>,
     reports: &mut Reports,
 ) -> Result<(), AllocError> {
     if !reports.warns {
         return Ok(());
     }
-    warn_of_rules(alloc, outline, spec, tables, reports)?;
+    warn_of_rules(alloc, outline, spec, tables, lists, reports)?;
     let options = &outline.declared.options;
     if !options.is_on(b"default") && is_default_chosen(tables) {
         let place = options.place_of(b"default").unwrap_or(FilePlace::WHOLE);

@@ -6,7 +6,7 @@ ghost use Rattle.lx_tables.specs.Model.{AreTablesOf};
 ghost use Rattle.std.specs.Io.KnownBytes.{Appends};
 ghost use Rattle.lx_cli.specs.CommandLine.{words_of};
 ghost use Rattle.lx_tool.specs.Printing.{IsPlaced, IsWritten};
-ghost use Rattle.lx_tool.specs.Scanners.{IsAnswer, IsAnswered, IsDone, IsMade, IsOutcome, IsScanner, IsScannerPrinted, command_named, part_after, scanner_asked};
+ghost use Rattle.lx_tool.specs.Scanners.{FindsLists, IsAnswer, IsAnswered, IsDone, IsMade, IsOutcome, IsScanner, IsScannerPrinted, command_named, part_after, scanner_asked};
 
 use crate::output::Output;
 use crate::remarks::tell_size;
@@ -22,7 +22,7 @@ use lx_flex::Reports;
 use lx_flex::file::{FlexFile, read_file};
 use lx_flex::flags::{FlexAnswer, FlexCommand, read_command};
 use lx_flex::options::FlexOptions;
-use lx_lex::{PrintOptions, header_of, scanner_of};
+use lx_lex::{PrintOptions, ScannerTables, header_of, scanner_of};
 use std::alloc::{AllocError, Global};
 use std::io::Write;
 
@@ -247,18 +247,18 @@ fn scanner_text<'a, 's>(
 ) -> Result<Vec<u8>, ScannerFault<'a>>
     requires rules { IsMade (spec_view made.now.spec) made.now.cut_tables }
     requires tables { AreTablesOf (spec_view made.now.spec) made.now.tables }
+    requires lists { FindsLists (spec_view made.now.spec) made.now.lists }
     ensures { IfOk result (λ text. IsScanner text.items) }
 {
     if made.outline.declared.options.is_on(b"verbose") {
         push_summary(notes, made)?;
     }
-    Ok(scanner_of(
-        alloc,
-        &made.outline,
-        &made.tables,
-        made.cut_tables.as_ref(),
-        options,
-    )?)
+    let tables = ScannerTables {
+        tables: &made.tables,
+        cut_tables: made.cut_tables.as_ref(),
+        lists: made.lists.as_ref(),
+    };
+    Ok(scanner_of(alloc, &made.outline, tables, options)?)
 }
 
 // Writes the scanner, and its header if that has a name.
