@@ -111,8 +111,16 @@ fn push_start(text: &mut Vec<u8>, automaton: &Automaton, condition: u16) -> Push
     ensures { OnOk result
         (text.new.items ≡ text.old.items ++ arrays.start_line automaton.now condition) }
 {
-    push_number_then(text, row_of(automaton, automaton.start(condition, false)), b",")?;
-    push_number_then(text, row_of(automaton, automaton.start(condition, true)), b",")?;
+    push_number_then(
+        text,
+        row_of(automaton, automaton.start(condition, false)),
+        b",",
+    )?;
+    push_number_then(
+        text,
+        row_of(automaton, automaton.start(condition, true)),
+        b",",
+    )?;
     push(text, b"\n")
 }
 

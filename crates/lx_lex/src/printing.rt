@@ -206,8 +206,16 @@ fn push_cut_macros(output: &mut Output, tables: &Tables) -> Result<(), AllocErro
 fn push_list_macros(output: &mut Output, lists: &ListAutomaton) -> Result<(), AllocError> {
     let automaton = &lists.automaton;
     output.push(b"\n")?;
-    push_define(output, b"YY_REJECT_NUL_CLASS", u64::from(automaton.class(0)))?;
-    push_define(output, b"YY_REJECT_LIST_COLUMN", u64::from(automaton.classes()))
+    push_define(
+        output,
+        b"YY_REJECT_NUL_CLASS",
+        u64::from(automaton.class(0)),
+    )?;
+    push_define(
+        output,
+        b"YY_REJECT_LIST_COLUMN",
+        u64::from(automaton.classes()),
+    )
 }
 
 /// Appends the case that cuts the match of a rule.
@@ -457,10 +465,7 @@ fn cut_arrays_or_none(alloc: Global, tables: Option<&Tables>) -> Result<Vec<u8>,
 }
 
 /// Returns the arrays of the rules that match after each text, or the empty text if none are wanted.
-fn list_arrays_or_none(
-    alloc: Global,
-    lists: Option<&ListAutomaton>,
-) -> Result<Vec<u8>, AllocError>
+fn list_arrays_or_none(alloc: Global, lists: Option<&ListAutomaton>) -> Result<Vec<u8>, AllocError>
     ensures arrays { IfOk result (λ text.
         IfSome lists.entry (λ l. text.items ≡ list_arrays_text l.now.automaton l.now.lists)) }
     ensures small { IfOk result (λ _. IfSome lists.entry (λ l. HasSmallPlaces l.now.lists)) }

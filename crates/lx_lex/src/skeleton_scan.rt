@@ -98,7 +98,8 @@ static char *yy_cut_match(char *yy_from, char *yy_to, unsigned int yy_token_row,
 
 "#;
 
-pub(crate) const REJECT: &[u8] = br#"/* Walks over a match again, and keeps the row after each of its bytes. */
+pub(crate) const REJECT: &[u8] =
+    br#"/* Walks over a match again, and keeps the row after each of its bytes. */
 static void yy_keep_rows(unsigned int yy_row, const char *yy_from, size_t yy_length@P)
 {
 %if reentrant

@@ -6,7 +6,8 @@ use lx_spec::read_spec;
 use std::process::Abort;
 
 /// Rules that overlap: a word and a class, a rule at line begin, one at line end, and one of another condition.
-const OVERLAPPING: &str = "%x S\n%%\nab return A;\n[ab]+ return B;\na return C;\n^a return D;\na$ return E;\n<S>a return F;\n";
+const OVERLAPPING: &str =
+    "%x S\n%%\nab return A;\n[ab]+ return B;\na return C;\n^a return D;\na$ return E;\n<S>a return F;\n";
 
 /// A start, a text, and the rules that match the whole text. A start is a condition, and true at line begin.
 type Row = ((u16, bool), &'static str, &'static [u16]);
@@ -74,5 +75,9 @@ fn lists_have_all_rules_that_match(rt: HostRuntime) {
     let spec = read_spec(rt.alloc(), OVERLAPPING.as_bytes()).expect(&rt, OVERLAPPING);
     let built = build_lists(rt.alloc(), &spec).expect(&rt, "built");
     have_rows(&rt, &built);
-    holds(&rt, built.lists.count() == DIFFERENT_LISTS, "number of lists");
+    holds(
+        &rt,
+        built.lists.count() == DIFFERENT_LISTS,
+        "number of lists",
+    );
 }

@@ -223,10 +223,12 @@ fn taker_of(
 
 // Returns true if `REJECT` can reach the rule with this number.
 fn is_listed(lists: Option<&ListAutomaton>, number: u16) -> bool {
-    let Some(ListAutomaton {
-        automaton: _,
-        lists,
-    }) = lists
+    let Some(
+        ListAutomaton {
+            automaton: _,
+            lists,
+        },
+    ) = lists
     else {
         return false;
     };
