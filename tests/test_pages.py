@@ -14,7 +14,7 @@ from tests import markdown, row_files, support
 from tests.support import TESTS, TOP, Case, crates_of, lx, output_of
 
 DOCS = TOP / "docs"
-PAGES = [TOP / "README.md", *sorted(DOCS.glob("*.md"))]
+PAGES = [TOP / "README.md", TOP / "CONTRIBUTING.md", *sorted(DOCS.glob("*.md"))]
 LIMIT_SECONDS = 120
 NAMED_FILE = re.compile(r"`([\w.]+)`:$")
 TOOLS = ["cc", "make", "cmake", "bison"]
@@ -29,6 +29,14 @@ class Commands(Case):
         self.tools = self.make_folder()
         (self.tools / "lx").symlink_to(support.built())
         self.environment = {**os.environ, "PATH": f"{self.tools}:{os.environ['PATH']}", "PYTHONPATH": str(TOP / "drivers")}
+
+    def folder_of(self, page):
+        """Makes the folder in which the commands of a page run. Those of the README run in a clone."""
+        folder = self.make_folder()
+        if page.name == "README.md":
+            (folder / "lx").symlink_to(support.built())
+            (folder / "examples").symlink_to(TOP / "examples")
+        return folder
 
     def run_command(self, command, folder):
         how = {"cwd": folder, "env": self.environment, "stderr": subprocess.STDOUT, "text": True, "seconds": LIMIT_SECONDS}
@@ -47,9 +55,9 @@ class Commands(Case):
 
     def test_pages(self):
         with_commands = [page for page in PAGES if re.search(r"^    \$ ", page.read_text(), re.M)]
-        self.assertLessEqual({"FLEX.md", "PROGRAMS.md"}, {page.name for page in with_commands}, "pages with commands")
+        self.assertLessEqual({"README.md", "GUIDE.md", "FLEX.md", "PROGRAMS.md"}, {page.name for page in with_commands}, "pages with commands")
         for page in with_commands:
-            folder = self.make_folder()
+            folder = self.folder_of(page)
             for section in markdown.sections(page.read_text()):
                 self.try_section(page, section, folder)
 
@@ -245,6 +253,12 @@ class Proved(Case):
 class Architecture(Case):
     def test_map(self):
         ended = support.run(DOCS / "map", "--check", text=True)
+        self.assertEqual((ended.returncode, ended.stdout + ended.stderr), (0, ""))
+
+
+class Speed(Case):
+    def test_chart(self):
+        ended = support.run(DOCS / "chart", "--check", text=True)
         self.assertEqual((ended.returncode, ended.stdout + ended.stderr), (0, ""))
 
 
