@@ -2,7 +2,7 @@
 
 In an indented block a line that begins with `$ ` is run, and the lines after it are what it prints; another block after a line that ends with a name, as
 `main.c`:, is the file of this name. Besides, the tables of docs/ERRORS.md, the test vectors of docs/TABLES.md, the options of docs/lx.1, the names in
-docs/POSIX.md and docs/PROVED.md and the map in docs/ARCHITECTURE.md are compared with what they are about.
+docs/POSIX.md and docs/CONTRACTS.md and the map in docs/ARCHITECTURE.md are compared with what they are about.
 """
 import ast
 import os
@@ -226,7 +226,7 @@ def exports_of(text):
 
 
 class Proved(Case):
-    """docs/PROVED.md speaks of each public function and each trait of the libraries."""
+    """docs/CONTRACTS.md speaks of each public function and each trait of the libraries."""
 
     # These promise nothing but their types: they make a value of a kind, or give back what it was made of.
     PLAIN = {"new", "of"}
@@ -243,7 +243,7 @@ class Proved(Case):
         return exported & declared - self.PLAIN
 
     def test_names(self):
-        page = (DOCS / "PROVED.md").read_text()
+        page = (DOCS / "CONTRACTS.md").read_text()
         libraries = [name for name in crates_of((TOP / "crates.txt").read_text()) if (TOP / "crates" / name / "src/lib.rt").exists()]
         for crate in [name for name in libraries if not self.FOR_TESTS.fullmatch(name)]:
             for name in sorted(self.names_of(crate)):
