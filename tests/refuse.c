@@ -55,7 +55,7 @@ static void make(const char *path, const char *text, size_t length)
     close(file);
 }
 
-/* Writes the digits of a number behind `end`, and gives their beginning. */
+/* Writes the digits of a number after `end`, and gives their beginning. */
 static char *digits(char *end, unsigned long value)
 {
     do

@@ -89,7 +89,7 @@ static void P(list_by_parts)(unsigned file, const unsigned char *text, size_t si
     free(block);
 }
 
-/* way: `whole`, or `part` or `fill` with a number behind it */
+/* way: `whole`, or `part` or `fill` with a number after it */
 static void P(list)(unsigned file, const unsigned char *text, size_t size, const char *way)
 {
     const size_t number = *way == 'w' ? 0 : (size_t)strtoul(way + 4, NULL, 10);

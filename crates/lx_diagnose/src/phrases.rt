@@ -10,13 +10,13 @@ use crate::causes::{
 pub(crate) fn phrase_of(cause: Cause) -> &'static str {
     match cause {
         Cause::NoRules(RulesCause::IndentedPercent) =>
-            "line # has %% behind a blank, where it is code",
+            "line # has %% after a blank, so it is code",
         Cause::NoRules(RulesCause::RulesAsDefinitions) =>
-            "line # looks like a rule, and no line %% stands before it",
+            "line # looks like a rule, and there is no line %% before it",
         Cause::NotClosed(OpenCause::HiddenBrace) => "the } of line # is in a comment or in quotes",
         Cause::NoForm(LineCause::OptionWord) => "the option `@` is not known",
         Cause::NoForm(LineCause::SizeForm) => "`@` has another form",
-        Cause::NoForm(LineCause::ConditionsForm) => "`@` has a blank and names behind it",
+        Cause::NoForm(LineCause::ConditionsForm) => "`@` needs a blank and names after it",
         Cause::NoForm(LineCause::PercentWord) => "`@` is no declaration of lex",
         Cause::NoForm(LineCause::NameAlone) => "`@` is defined as nothing",
         Cause::NoForm(LineCause::NameForm) => "`@` can't be a name: it has `~`",
@@ -34,7 +34,7 @@ pub(crate) fn phrase_of(cause: Cause) -> &'static str {
         Cause::NoReading(PatternCause::RangeBackwards) => "the range `@` runs backwards",
         Cause::NoReading(PatternCause::EscapeLarge) => "the number of `@` is above 255",
         Cause::NoReading(PatternCause::RepeatBehindInterval) => "`@` can't follow an interval",
-        Cause::NoReading(PatternCause::NothingToRepeat) => "nothing stands before `@`",
+        Cause::NoReading(PatternCause::NothingToRepeat) => "there is nothing before `@`",
         Cause::NoReading(PatternCause::OddByte) => "the byte `@` can't stand here",
         Cause::Undefined(NameCause::NotDefined) => "`@` is not defined",
         Cause::Undefined(NameCause::Similar) => "`@` is not defined; did you mean `~` (line #)?",

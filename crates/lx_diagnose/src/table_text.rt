@@ -90,7 +90,7 @@ fn table_phrase(cause: TableCause) -> &'static str {
     match cause {
         TableCause::NoTable => "this is no table of lx",
         TableCause::Newer => "tables of version `@`; this lx reads 1 and 2",
-        TableCause::Cut => "the text is cut short behind line #",
+        TableCause::Cut => "the text is cut short after line #",
         TableCause::Specification | TableCause::CarriageReturns => "",
     }
 }

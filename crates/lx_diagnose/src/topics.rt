@@ -12,7 +12,7 @@ E02
     As in: DIGIT [0-9]
 
 indented-percent (E02)
-    %% stands behind a blank, where it is code
+    %% comes after a blank, so it is code
     To do: begin it at the margin
     As in:  %%
 
@@ -34,12 +34,12 @@ group-open (E03)
 
 comment-open (E03)
     a comment of Definitions is not closed
-    To do: close it by */, which has to stand behind the /*: /*/ leaves it open
+    To do: close it by */ after the /*: /*/ leaves it open
     As in: /* names
 
 action-open (E03)
     more braces are opened in an action than closed
-    To do: close them; the rules behind are read as part of the action
+    To do: close them; the rules after it are read as part of the action
     As in: a { return A;
 
 action-comment-open (E03)
@@ -48,7 +48,7 @@ action-comment-open (E03)
     As in: a ; /* blanks
 
 brace-hidden (E03)
-    the closing brace stands in a // comment or in quotes
+    the closing brace is in a // comment or in quotes
     To do: put it on a line of its own
     As in: a { return A; // done }
 
@@ -72,7 +72,7 @@ tables-given (E04)
     As in: lx-tables 2
 
 rule-before-percent (E04)
-    a rule stands before the line %%
+    a rule comes before the line %%
     To do: begin Rules by %%
     As in: [0-9]+ return NUM;
 
@@ -82,7 +82,7 @@ option-word (E04)
     As in: %option yylineno
 
 option-form (E04)
-    %option stands alone, or has commas
+    %option has no words, or has commas
     To do: put blanks between the words, or delete the line
     As in: %option noyywrap, nounput
 
@@ -92,7 +92,7 @@ top-group (E04)
     As in: %top{
 
 size-form (E04)
-    %p, %n, %a, %e, %k and %o have a blank and a number behind them; %array and %pointer have nothing
+    %p, %n, %a, %e, %k and %o need a blank and a number after them; %array and %pointer take nothing
     To do: write %e 2000, or delete the line
     As in: %e2000
 
@@ -102,12 +102,12 @@ group-closes (E04)
     As in: %}
 
 conditions-comma (E04)
-    commas stand between the names of conditions
+    commas separate the names of conditions
     To do: put blanks between them: %x A B
     As in: %x A, B
 
 conditions-form (E04)
-    %s and %x have a blank and names behind them
+    %s and %x need a blank and names after them
     To do: write %x A B; a name has letters, digits and _
     As in: %x 1st
 
@@ -117,13 +117,13 @@ percent-word (E04)
     As in: %token ID
 
 c-line (E04)
-    a line of C stands at the margin
-    To do: put it between %{ and %}, or behind a blank; a comment is /* */
+    a line of C begins at the margin
+    To do: put it between %{ and %}, or after a blank; a comment is /* */
     As in: #include <stdio.h>
 
 name-alone (E04)
     a name is defined as nothing
-    To do: put a pattern behind it, or delete the line
+    To do: put a pattern after it, or delete the line
     As in: DIGIT
 
 name-form (E04)
@@ -163,12 +163,12 @@ prefix-operator (E10)
     As in: <= return LE;
 
 prefix-blank (E10)
-    a blank stands in a list of conditions
+    a list of conditions has a blank
     To do: write <A,B>
     As in: %x A B, then <A, B>a ;
 
 prefix-name (E10)
-    what stands between < and > is no list of conditions, or there is no >
+    what is between < and > is no list of conditions, or there is no >
     To do: write <A,B>; quote < where the byte is meant
     As in: %x A B, then <A-B>a ;
 
@@ -178,8 +178,8 @@ scope (E10)
     As in: %x A B, then <A>{
 
 pattern-missing (E10)
-    no pattern stands directly behind the list of conditions
-    To do: put no blank behind >
+    no pattern follows the list of conditions directly
+    To do: put no blank after >
     As in: %x A B, then <A> a ;
 
 comment-line (E10)
@@ -192,7 +192,7 @@ too-long (E10)
     To do: use names for its parts
 
 nothing-but-anchors (E10)
-    nothing stands beside ^ or $
+    there is nothing but ^ or $
     To do: for an empty line ^\n; for the byte "^"
     As in: ^$ ;
 
@@ -202,12 +202,12 @@ definition-anchor (E10)
     As in: LINE ^#.*, then {LINE} ;
 
 definition-blank (E10)
-    a blank stands in a substitute, where it ends a pattern too
-    To do: quote it; a comment behind a substitute is not read, delete it
+    a substitute has a blank, which ends a pattern there too
+    To do: quote it; a comment after a substitute is not skipped, so delete it
     As in: KEY if /* once */, then {KEY} ;
 
 definition-equals (E10)
-    = or : stands between a name and its substitute
+    = or : is between a name and its substitute
     To do: write the name, a blank and the pattern
     As in: DIGIT = [0-9], then {DIGIT} ;
 
@@ -222,12 +222,12 @@ slash (E10)
     As in: // ;
 
 caret-inside (E10)
-    ^ stands behind the beginning of a pattern
+    ^ comes after the beginning of a pattern
     To do: \^ for the byte; where a line's beginning is meant, a rule of its own, joined by |
     As in: a|^b ;
 
 dollar-inside (E10)
-    $ stands before the end of a pattern
+    $ comes before the end of a pattern
     To do: \$ for the byte; where a line's end is meant, a rule of its own, joined by |
     As in: a$|b ;
 
@@ -267,7 +267,7 @@ interval-low (E10)
     As in: a{,3} ;
 
 interval-form (E10)
-    what stands in the braces is no interval
+    what is in the braces is no interval
     To do: write {m}, {m,} or {m,n}; \{ for the byte
     As in: a{2;3} ;
 
@@ -283,7 +283,7 @@ brace-open (E10)
 
 brackets-open (E10)
     brackets are not closed
-    To do: \[ for the byte; in brackets ] stands first, or as \]
+    To do: \[ for the byte; in brackets ] comes first, or is written \]
     As in: [a-z ;
 
 class-negated (E10)
@@ -322,7 +322,7 @@ escape-large (E10)
     As in: \777 ;
 
 escape-end (E10)
-    nothing stands behind a backslash
+    nothing follows a backslash
     To do: \\ for the byte; a blank is " "
     As in: a\
 
@@ -332,12 +332,12 @@ group-option (E10)
     As in: (?i:if) ;
 
 repeat-behind-interval (E10)
-    *, + or ? stands behind an interval
+    *, + or ? follows an interval
     To do: put the interval in parentheses: (a{2})*
     As in: a{2}* ;
 
 nothing-to-repeat (E10)
-    nothing stands before *, + or ?, or before an interval
+    there is nothing before *, + or ?, or before an interval
     To do: \* or "*" for the byte
     As in: * return STAR;
 
@@ -401,18 +401,18 @@ blank-in-pattern (E20)
     As in: else if return ELIF;
 
 quote-splits (E20)
-    a quote ends a string, so that the pattern ends at the blank behind it
+    a quote ends a string, so the pattern ends at the blank after it
     To do: write \" for the byte
     As in: "say "hi there"" return HI;
 
 no-blank (E20)
-    no blank stands between pattern and action
+    there is no blank between pattern and action
     To do: put one there
     As in: "if"return IF;
 
 bar-not-alone (E20)
-    | has more words behind it
-    To do: as an action it stands alone; for a choice in the pattern leave the blank out
+    | has more words after it
+    To do: as an action it is alone; for a choice in the pattern leave the blank out
     As in: a | b return X;
 
 semicolon (E20)
@@ -436,7 +436,7 @@ return-string (E20)
     As in: a return "a";
 
 return-number (E20)
-    a number behind return is negative, 2,147,483,648 or more, or not decimal
+    a number after return is negative, 2,147,483,648 or more, or not decimal
     To do: write a decimal number without leading zeros
     As in: a return 0x10;
 
@@ -499,7 +499,7 @@ E30
 
 E31
     the automaton would have more than 16,384 sets of positions
-    To do: a shorter rest behind a repeat; two rules in two conditions
+    To do: a shorter rest after a repeat; two rules in two conditions
     As in: (a|b)*a((a|b){20}) ;
 
 
@@ -542,7 +542,7 @@ warning
     To do: write what is meant, or switch the warning off: by -W no-NAME, or by a comment on the line before, indented: /* lx: allow NAME */
 
 condition-word (warning)
-    a word behind % begins with s or x, so the line declares conditions
+    a word after % begins with s or x, so the line declares conditions
     To do: write %s or %x where they are meant; such a word of another tool is none of lex
 
 never-entered (warning)
@@ -558,27 +558,27 @@ never-chosen (warning)
     To do: put it before the rule that takes its texts, or delete it
 
 interval (warning)
-    an interval repeats all that stands before it in its branch, and in flex the last unit alone
+    an interval repeats all that is before it in its branch, but in flex only the last unit
     To do: put what it is to repeat in parentheses: (b{2}) or (ab){2}
     As in: ab{2} return A;
 
 lazy (warning)
-    a ? behind a repeat is no lazy repeat: the longest text is taken
+    a ? after a repeat is no lazy repeat: the longest text is taken
     To do: leave the ? out, and say by the pattern where the text ends
     As in: a*? return A;
 
 letter-escape (warning)
-    a backslash stands before a letter or digit that has no escape of its own, and stands for that letter or digit
+    a backslash before a letter or digit without an escape of its own means that letter or digit
     To do: write brackets where a class is meant: [0-9], or leave the backslash out
     As in: \d+ return NUM;
 
 long-hex (warning)
-    a number behind \x has three digits or more, which are all of it
-    To do: where two digits are meant, put what stands behind them in quotes of its own
+    a number after \x has three digits or more, which are all of it
+    To do: where two digits are meant, put what follows them in quotes of its own
     As in: \x041 return A;
 
 many-bytes (warning)
-    a character of several bytes stands in brackets, which take one of the bytes, or before a repeat, which repeats the last one
+    a character of several bytes is in brackets, which take one of the bytes, or before a repeat, which repeats the last one
     To do: write alternatives, as (a|b), and put the character in quotes before a repeat
     As in: é+ return E;
 
@@ -588,17 +588,17 @@ curly-quotes (warning)
     As in: “a” return A;
 
 class-outside (warning)
-    a class stands without the brackets round it, and is brackets that take one of its bytes
+    a class lacks the brackets around it, so it is brackets that take one of its bytes
     To do: write [[:alpha:]]
     As in: [:alpha:] return A;
 
 wide-range (warning)
-    a range goes from a capital letter to a small one, or from a digit to a letter, and takes what stands between them
+    a range goes from a capital letter to a small one, or from a digit to a letter, and takes what is between them
     To do: write A-Za-z, or 0-9A-Za-z
     As in: [A-z]+ return ID;
 
 dead-statement (warning)
-    a statement stands behind a return of its action, and is never done
+    a statement comes after a return of its action, and is never done
     To do: put it before the return, or delete it
     As in: a { return A; ECHO; }
 
@@ -608,15 +608,15 @@ skipped-rule (warning)
     As in:  a return A;
 
 skipped-line (warning)
-    a line behind the second %% looks like a rule, and is skipped
+    a line after the second %% looks like a rule, and is skipped
     To do: put it before that line
 
 far-ahead (warning)
-    a run of one byte is read to its end, and where no match ends with it, again behind each of its bytes; said where it is asked for, by -W far-ahead
+    a run of one byte is read to its end, and where no match ends with it, again after each of its bytes; off by default; enable with -W far-ahead
     To do: let a shorter text match too, or bound the repeat
     As in: (.|\n)*x return A;
 
 unread-bytes (warning)
-    no rule takes some bytes in a condition that is entered, so they are echoed; said where it is asked for, by -W unread-bytes
+    no rule takes some bytes in a condition that is entered, so they are echoed; off by default; enable with -W unread-bytes
     To do: take each other byte by a last rule: .|\n ;
     As in: [a-z]+ return ID;"#;

@@ -44,11 +44,11 @@ pub enum ImportCause {
     TrailingContext,
     #[error("a pattern before $ that matches nothing; write + for *")]
     EmptyBeforeDollar,
-    #[error("$ behind a rule with the action |, where flex takes the newline along; give that rule an action of its own")]
+    #[error("$ after a rule with the action |, where flex takes the newline along; give that rule an action of its own")]
     DollarBehindBar,
     #[error("REJECT; write the other rule's pattern first")]
     Reject,
-    #[error("yymore; join the tokens behind the scanner")]
+    #[error("yymore; join the tokens in what reads them")]
     More,
     #[error("yyless; write a pattern for what is to be taken")]
     Less,
@@ -56,7 +56,7 @@ pub enum ImportCause {
     Unput,
     #[error("input; write a pattern for what it reads")]
     Input,
-    #[error("yyterminate; stop behind the scanner")]
+    #[error("yyterminate; stop in what reads the tokens")]
     Terminate,
     #[error("a stack of start conditions; use BEGIN with a condition's name")]
     StateStack,

@@ -22,13 +22,13 @@ pub enum PatternFault {
     #[error("a bound of an interval is above 16383")]
     LargeInterval,
     /// A number after a backslash is above 255.
-    #[error("a number behind a backslash is above 255")]
+    #[error("a number after a backslash is above 255")]
     LargeEscape,
     /// `[:^upper:]` or `[:^lower:]` with case ignored, which flex itself calls ambiguous.
     #[error("a class has no meaning where case is ignored")]
     AmbiguousClass,
     /// `{+}` next to brackets with `^`. flex's manual and flex 2.6.4 disagree on its meaning.
-    #[error("{{+}} stands beside brackets with ^")]
+    #[error("{{+}} is used with brackets that begin with ^")]
     ExcludedUnion,
     /// The pattern has more parts, groups or names than can be imported.
     #[error("the pattern is too long or too deep")]

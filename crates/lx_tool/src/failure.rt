@@ -166,7 +166,7 @@ pub enum CommandFault<'a> {
     #[error("lx: too many files")]
     TooManyFiles,
     /// Standard input is named twice.
-    #[error("lx: - stands twice, and standard input can be read once")]
+    #[error("lx: - is named twice, and standard input can be read once")]
     InputTwice,
     /// The request is rejected: the form or the files of a listing, or an output file.
     #[error("lx: {0}")]

@@ -46,7 +46,7 @@ pub(crate) fn look_at_action(
             allowed,
             WarningKind::DeadStatement,
             words.places[number],
-            "what stands behind a return is never done",
+            "what comes after a return is never done",
         ),
         _ => Ok(()),
     }

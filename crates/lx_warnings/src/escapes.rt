@@ -54,11 +54,11 @@ fn look_at_hexadecimal(
     digits: usize,
 ) -> Result<(), AllocError> {
     if digits == 0 {
-        let phrase = "`@` is the letter alone: no hexadecimal digit stands behind it";
+        let phrase = "`@` is the letter alone: no hexadecimal digit follows it";
         push_part(search, allowed, WarningKind::LetterEscape, at, phrase)
     } else if digits >= LONG {
         let phrase =
-            "all digits of `@` are its number; where two are meant, put what stands behind them in quotes of its own";
+            "all digits of `@` are its number; where two are meant, put what follows them in quotes of its own";
         push_part(search, allowed, WarningKind::LongHex, at, phrase)
     } else {
         Ok(())

@@ -121,7 +121,7 @@ pub(crate) fn look_at_skipped(
         let suspect = suspect_at(
             WarningKind::SkippedLine,
             line.at,
-            "this looks like a rule, and is skipped: it stands behind the second %%",
+            "this looks like a rule, and is skipped: it comes after the second %%",
         );
         look_at_line(search, &KindSet::none(), suspect)?;
     }

@@ -215,7 +215,7 @@ fn look_at_runs(
             let suspect = Suspect {
                 kind: WarningKind::FarAhead,
                 at: between(rule.start, rule.pattern.end()),
-                phrase: "a run of the byte `@` is read to its end, and where no match ends with it, again behind each of its bytes",
+                phrase: "a run of the byte `@` is read to its end, and where no match ends with it, again after each of its bytes",
                 subject: Subject::Byte(far.byte),
             };
             push_suspect(search, &rule.allowed, suspect)?;
