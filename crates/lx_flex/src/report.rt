@@ -90,7 +90,7 @@ pub enum ImportCause {
     IntervalBinding,
 }
 
-/// What takes the texts of a rule that is never matched.
+/// The rules that take the texts of a rule that is never matched.
 #[derive(Debug, Clone, Copy, PartialEq, Eq, Error)]
 pub enum Taker {
     /// One rule, at this place.

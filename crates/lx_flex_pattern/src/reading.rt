@@ -73,7 +73,7 @@ enum RowStop {
     Slash,
 }
 
-// What follows the parts that were read in one go: a definition's text, or the stop of the row.
+// The end of the parts that were read in one go: a definition's text follows, or the stop of the row.
 #[derive(Drop)]
 enum RowEnd {
     Inserts(Groups, PlaceInText),

@@ -9,7 +9,7 @@ use lx_flex::conditions::FlexCondition;
 use lx_flex::rules::RuleAction;
 use std::alloc::{AllocError, Global};
 
-/// Where C text comes from and goes to.
+/// The source and the target of C text.
 #[derive(Clone, Copy)]
 pub(crate) struct CodePlaces<'a> {
     /// The whole text.

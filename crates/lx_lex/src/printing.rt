@@ -27,7 +27,7 @@ use lx_c::pushing::push_number_then;
 use lx_tables::Tables;
 use std::alloc::{AllocError, Global};
 
-/// What a scanner is printed for.
+/// The options with which a scanner is printed.
 #[derive(Clone, Copy)]
 pub struct PrintOptions<'a> {
     /// Files that the text was read of.

@@ -25,7 +25,7 @@ pub struct EmptyParts {
     pub context: bool,
 }
 
-// What was read of s since the last text of r.
+// The part of s that was read since the last text of r.
 #[derive(Clone, Copy)]
 pub(crate) enum ContextReading {
     // There is no text of r yet.
@@ -44,7 +44,7 @@ impl ContextReading {
     }
 }
 
-// What was read of a match.
+// The part of a match that was read.
 #[derive(Clone, Copy)]
 pub(crate) struct Reading {
     // State of r, or `None` if no text of r begins so.

@@ -1,4 +1,4 @@
-//! What a command runs with.
+//! The environment of a command.
 
 use lx_listing::LineWrites;
 use std::alloc::Global;
