@@ -4,6 +4,7 @@
 pub mod bytes;
 mod errors;
 pub mod finding;
+pub mod flex_file;
 pub mod lines;
 mod ordering;
 mod pieces;
@@ -14,6 +15,7 @@ pub mod saying;
 pub mod subject;
 mod warnings;
 
+pub use crate::flex_file::{NamedText, push_reports};
 pub use crate::sarif_report::sarif_of;
 pub use crate::saying::{Said, report_of};
 pub use crate::subject::ReportSubject;

@@ -21,8 +21,6 @@ mod scanner_fault;
 mod scanner_help;
 mod scanner_input;
 mod scanner_making;
-mod scanner_report;
-mod scanner_warnings;
 mod scanners;
 mod session;
 mod showing;

@@ -9,7 +9,6 @@ use crate::remarks::tell_size;
 use crate::scanner_fault::ScannerFault;
 use crate::scanner_input::{read_whole_text, source_names};
 use crate::scanner_making::{MadeScanner, made_of};
-use crate::scanner_report::{NamedText, push_reports};
 use crate::scanners::{ScannerWords, answer_of, report};
 use crate::source::Sources;
 use crate::target::NoTargets;
@@ -18,7 +17,7 @@ use lx_flex::file::{FlexFile, read_file};
 use lx_flex::flags::{FlagFault, FlexCommand, read_command};
 use lx_flex::options::FlexOptions;
 use lx_lex::place_in;
-use lx_report::push_count;
+use lx_report::{NamedText, push_count, push_reports};
 use std::alloc::{AllocError, Global};
 use std::io::Write;
 

@@ -9,7 +9,6 @@ ghost use Rattle.lx_tables.specs.Model.{AreTablesOf};
 ghost use Rattle.lx_tool.specs.Scanners.{FindsEnds, FindsLists, IsMade};
 
 use crate::scanner_fault::ScannerFault;
-use crate::scanner_warnings::{warn_of_contexts, warn_of_tables};
 use lx_auto::{build_lists, build_merged};
 use lx_automaton::ListAutomaton;
 use lx_flex::Reports;
@@ -19,6 +18,7 @@ use lx_flex::rules::FlexRule;
 use lx_lex::{FileOutline, cut_specification_of, specification_of, split};
 use lx_rules::{Condition, Spec};
 use lx_tables::Tables;
+use lx_warnings::{warn_of_contexts, warn_of_tables};
 use std::alloc::{AllocError, Global};
 
 /// A file with its tables.

@@ -14,7 +14,6 @@ use crate::scanner_fault::ScannerFault;
 use crate::scanner_help::{FLEX_HELP, LEX_HELP};
 use crate::scanner_input::{read_whole_text, source_names};
 use crate::scanner_making::{MadeScanner, made_of};
-use crate::scanner_report::{NamedText, push_reports};
 use crate::source::Sources;
 use crate::target::Targets;
 use lx_cli::VERSION;
@@ -23,6 +22,7 @@ use lx_flex::file::{FlexFile, read_file};
 use lx_flex::flags::{FlexAnswer, FlexCommand, read_command};
 use lx_flex::options::FlexOptions;
 use lx_lex::{PrintOptions, ScannerTables, header_of, scanner_of};
+use lx_report::{NamedText, push_reports};
 use std::alloc::{AllocError, Global};
 use std::io::Write;
 

@@ -1,9 +1,9 @@
 //! Reports the faults and warnings of a file for lex or flex as lines.
 
+use crate::lines::push_marked;
 use lx_diagnose::line_bytes;
 use lx_flex::{FilePlace, ImportReport, Reports, Taker};
 use lx_lex::{SourceName, place_in};
-use lx_report::push_marked;
 use std::alloc::{AllocError, Global};
 use std::fmt::Display;
 use std::io::Write;
@@ -13,9 +13,9 @@ const MOST_MARKED: usize = 60;
 
 /// A text made of files.
 #[derive(Clone, Copy)]
-pub(crate) struct NamedText<'n> {
-    pub(crate) text: &'n [u8],
-    pub(crate) names: &'n [SourceName<'n>],
+pub struct NamedText<'n> {
+    pub text: &'n [u8],
+    pub names: &'n [SourceName<'n>],
 }
 
 // Appends a line: the place, its weight and words.
@@ -90,7 +90,7 @@ fn push_details(
 }
 
 /// Appends the lines of all reports. Leaves out source lines and notes if `quiet`.
-pub(crate) fn push_reports(
+pub fn push_reports(
     alloc: Global,
     lines: &mut Vec<u8>,
     source: NamedText<'_>,

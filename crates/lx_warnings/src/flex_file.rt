@@ -1,4 +1,4 @@
-//! Warnings on the rules of a file for lex or flex that its tables show.
+//! Warns of what the rules of a file for lex or flex show by their tables.
 
 use lx_auto::{BuildFault, build_merged};
 use lx_automaton::ListAutomaton;
@@ -119,7 +119,7 @@ fn is_dangerous_rule(
 
 /// Adds warnings on trailing context of which a scanner by flex would take another text. That can only be where flex doesn't cut by a length: if both
 /// parts have an operator, after a rule with the action `|`, or by `lex-compat`.
-pub(crate) fn warn_of_contexts(
+pub fn warn_of_contexts(
     alloc: Global,
     options: &FlexOptions,
     rules: &[FlexRule],
@@ -267,7 +267,7 @@ fn warn_of_rules(
 }
 
 /// Adds warnings on rules that are never matched, and on a missing default rule.
-pub(crate) fn warn_of_tables(
+pub fn warn_of_tables(
     alloc: Global,
     outline: &FileOutline<'_>,
     spec: &Spec,
