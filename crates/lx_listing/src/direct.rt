@@ -14,7 +14,7 @@ use lx_piece::{Plan, ReaderFault};
 use lx_scan::{Cursor, ItemList, ScanMemory};
 use std::alloc::Global;
 
-// Number of items that are scanned at once. With a quarter of them, a listing of C takes 6 % longer (docs/SPEED.md).
+// Number of items that are scanned at once. With a quarter of them, a listing of C takes 6 % longer.
 const AT_ONCE: usize = 1024;
 
 // Writes the lines of a file's items. `items` and `block` are scratch memory: their contents mean nothing before and after.
