@@ -9,7 +9,7 @@ DOCS = TOP / "docs"
 LIMITS = {"README.md": 110, "GUIDE.md": 200, "ARCHITECTURE.md": 200, "CONTRACTS.md": 210, "DECISIONS.md": 200, "INTERNALS.md": 200, "PROOFS.md": 200, "PROVING.md": 200}
 REFERENCE_LINES = 160
 # These need more: tables with a row for each error and construct, whole programs, and test vectors.
-LONGER = {"ERRORS.md": 270, "FLEX.md": 225, "PROGRAMS.md": 265, "TABLES.md": 280}
+LONGER = {"ERRORS.md": 280, "FLEX.md": 225, "PROGRAMS.md": 265, "TABLES.md": 280}
 WORDS_OF_A_SENTENCE = 40
 BEGINNING = re.compile(r"^\s*//[/!]? (Whether|What|How|Where|Who|Of)\b", re.M)
 
