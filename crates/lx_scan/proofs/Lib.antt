@@ -1,4 +1,5 @@
 pub mod Actions
+pub mod Blocks
 pub mod ByFits
 pub mod ByRuns
 pub mod Choosing
@@ -14,3 +15,4 @@ pub mod SomeChoice
 pub mod SomeItems
 pub mod Stepping
 pub mod Turns
+pub mod Walking
