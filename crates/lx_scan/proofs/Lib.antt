@@ -1,5 +1,4 @@
 pub mod Actions
-pub mod Blocks
 pub mod ByFits
 pub mod ByRuns
 pub mod Choosing
@@ -14,5 +13,6 @@ pub mod Runs
 pub mod SomeChoice
 pub mod SomeItems
 pub mod Stepping
+pub mod Streaming
 pub mod Turns
 pub mod Walking

@@ -10,12 +10,12 @@ use Rattle.lx_tables.specs.Model.{IsTable, Table}
 use Rattle.lx_scan.specs.declared.place.Match.{Match}
 use Rattle.lx_scan.specs.declared.place.Place.{Place}
 use Rattle.lx_scan.specs.Answers.{furthest, match_after, token_len}
-use Rattle.lx_scan.specs.Items.{choice_at, steps_at}
+use Rattle.lx_scan.specs.Items.{steps_at}
 use Rattle.lx_scan.specs.Matching.{GoesOn, IsFound, choice_in}
 use Rattle.lx_scan.specs.Steps.{condition_after, newlines}
 use Rattle.lx_scan.specs.Streams.{GoesOnBy, IsDecided, IsWalked}
 use Rattle.lx_scan.proofs.Choosing.{accepted_known}
-use Rattle.lx_scan.proofs.Stepping.{HasRead, nothing_read, reads_all, reads_no_more, reads_on}
+use Rattle.lx_scan.proofs.Stepping.{HasRead, reads_all, reads_no_more, reads_on}
 use Rattle.lx_scan.proofs.Turns.{found_is, goes_on, takes}
 
 -- ---- bytes that follow

@@ -1,5 +1,5 @@
 -- A scanner that is fed a text in blocks: the items that are left, in each text that begins with what was fed.
-use Rattle.std.specs.Prelude.{◌≡◌, ℕ, ◌+◌, ◌-◌, ◌^◌, ◌<◌, ◌≤◌, ◌⊎◌, Bool, false, IsTrue, List, [], ◌++◌, Option, Some, drop, length, slice_range, take}
+use Rattle.std.specs.Prelude.{◌≡◌, ℕ, ◌+◌, ◌-◌, ◌^◌, ◌<◌, ◌≤◌, ◌⊎◌, All, Bool, false, IsTrue, List, [], ◌++◌, Option, Some, drop, length, slice_range, take}
 use Rattle.std.specs.Option.{ForSome}
 use Rattle.lx_automaton.specs.Automata.{start_of, state_after, state_count, target_of}
 use Rattle.lx_tables.specs.Model.{IsTable, Table}
@@ -11,7 +11,7 @@ use Rattle.lx_scan.specs.declared.progress.Progress.{Progress}
 use Rattle.lx_scan.specs.Answers.{furthest}
 use Rattle.lx_scan.specs.Cursors.{steps_left}
 use Rattle.lx_scan.specs.ItemParts.{len_of, start_of as item_start}
-use Rattle.lx_scan.specs.Items.{first_place, items_after}
+use Rattle.lx_scan.specs.Items.{first_place, items_after, items_of}
 use Rattle.lx_scan.specs.Matching.{GoesOn}
 use Rattle.lx_scan.specs.Steps.{items_of_steps}
 
@@ -59,6 +59,18 @@ pub record Gives (old new : Stream) (given : List Item) : Type 0 where
   pub items : (text rest : List ℕ) → IsFedOf old text rest → left_in old text ≡ given ++ left_in new text
   pub kept : (item : Item) → IsKept old item → IsKept new item
 
+-- It gave the items that were appended to a list, and keeps their bytes.
+pub record GivesTo (old new : Stream) (before after : List Item) : Type 0 where
+  pub given : List Item
+  pub after_is : after ≡ before ++ given
+  pub gives : Gives old new given
+  pub kept : All (IsKept new) given
+
+-- It was fed these bytes of a text and gave these items. In each text that begins with the bytes, the items are the first ones, and the others are left.
+pub record HasScanned (s : Stream) (front : List ℕ) (given : List Item) : Type 0 where
+  pub fed : (rest : List ℕ) → (IsTrue s.has_ended → rest ≡ []) → IsFedOf s (front ++ rest) rest
+  pub items : (rest : List ℕ) → (IsTrue s.has_ended → rest ≡ []) → items_of s.table (front ++ rest) ≡ given ++ left_in s (front ++ rest)
+
 -- The text goes on, and in the state after the bytes that are held there is a step on some byte: the match in progress isn't decided.
 pub record IsOpen (s : Stream) : Type 0 where
   pub goes_on : s.has_ended ≡ false
@@ -73,6 +85,15 @@ pub record IsOpen (s : Stream) : Type 0 where
 pub record IsDrained (s : Stream) : Type 0 where
   pub none_due : s.due ≡ []
   pub undecided : (s.held ≡ []) ⊎ IsOpen s
+
+-- These items are decided by the bytes, as they are the first ones of each text that begins with them. No other item is decided: a scanner that gave them
+-- is drained.
+pub record AreDecided (table : Table) (bytes : List ℕ) (items : List Item) : Type 0 where
+  pub s : Stream
+  pub table_is : s.table ≡ table
+  pub goes_on : s.has_ended ≡ false
+  pub scanned : HasScanned s bytes items
+  pub drained : IsDrained s
 
 -- no items are left in a text that has ended
 pub record IsOver (s : Stream) : Type 0 where

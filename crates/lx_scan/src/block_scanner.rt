@@ -1,11 +1,12 @@
 //! A scanner that is fed a text in blocks, and gives each item as soon as no further byte could change it.
 
-ghost use Rattle.std.specs.Prelude.{◌≡◌, ◌≤◌, ℕ, List, true, false, IfNone, IfSome, OnErr, OnOk, drop, length};
+ghost use Rattle.std.specs.Prelude.{◌≡◌, ◌<◌, ◌≤◌, ℕ, List, true, false, IfNone, IfSome, OnErr, OnOk, drop, length};
 ghost use Rattle.lx_scan.specs.Cursors.{listed};
 ghost use Rattle.lx_scan.specs.ItemParts.{len_of, start_of, text_of};
-ghost use Rattle.lx_scan.specs.Streams.{Feeds, Gives, IsDrained, IsFedOf, IsKept, IsOver, first_stream};
+ghost use Rattle.lx_scan.specs.Streams.{Feeds, Gives, GivesTo, IsDrained, IsFedOf, IsKept, IsOver, first_stream};
 
 use crate::item::Item;
+use crate::list::ItemList;
 use crate::progress::Progress;
 use lx_tables::Tables;
 use std::alloc::{AllocError, Global};
@@ -120,5 +121,42 @@ impl BlockScanner {
         ensures over { IfNone result (IsOver self.new) }
     {
         self.progress.next_item(tables, &self.bytes, self.has_ended)
+    }
+
+    /// Appends the next items to a list until it has `most`, or all that are decided by the bytes that were fed. The tables are those that the scanner was
+    /// made with. AllocError if an allocation fails: then the scanner is unchanged, and the list may have some of the items.
+    pub fn next_items(
+        &mut self,
+        tables: &Tables,
+        most: usize,
+        items: &mut ItemList,
+    ) -> Result<(), AllocError>
+        requires table { self.old.table ≡ tables.now }
+        requires few { length items.old ≤ most }
+        ensures gives { OnOk result (GivesTo self.old self.new items.old items.new) }
+        ensures most { OnOk result (length items.new ≤ most) }
+        ensures drained { OnOk result (length items.new < most → IsDrained self.new) }
+        ensures over { OnOk result (length items.new < most → IsOver self.new) }
+        ensures err { OnErr result (self.new ≡ self.old) }
+    {
+        let mut progress = self.progress;
+        progress.next_items(tables, &self.bytes, self.has_ended, most, items)?;
+        self.progress = progress;
+        Ok(())
+    }
+
+    /// Appends all items that are decided by the bytes that were fed to a list. The tables are those that the scanner was made with. AllocError if an
+    /// allocation fails: then the scanner is unchanged, and the list may have some of the items.
+    pub fn all_items(&mut self, tables: &Tables, items: &mut ItemList) -> Result<(), AllocError>
+        requires { self.old.table ≡ tables.now }
+        ensures gives { OnOk result (GivesTo self.old self.new items.old items.new) }
+        ensures drained { OnOk result (IsDrained self.new) }
+        ensures over { OnOk result (IsOver self.new) }
+        ensures err { OnErr result (self.new ≡ self.old) }
+    {
+        let mut progress = self.progress;
+        progress.all_items(tables, &self.bytes, self.has_ended, items)?;
+        self.progress = progress;
+        Ok(())
     }
 }

@@ -4,6 +4,7 @@
 pub mod answering;
 mod appending;
 pub mod block_scanner;
+pub mod blocks;
 mod choice;
 pub mod cursor;
 mod ends;
@@ -20,6 +21,7 @@ pub mod scanner;
 mod walk;
 
 pub use crate::block_scanner::BlockScanner;
+pub use crate::blocks::{decided_items, scan_blocks};
 pub use crate::cursor::Cursor;
 pub use crate::flat::FlatItem;
 pub use crate::item::Item;

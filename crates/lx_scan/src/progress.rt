@@ -1,15 +1,17 @@
 //! The progress of a scanner in a text that arrives in blocks.
 
-ghost use Rattle.std.specs.Prelude.{◌≡◌, ◌<◌, ◌≤◌, [], None, true, false, IfNone, IfSome, length};
+ghost use Rattle.std.specs.Prelude.{◌≡◌, ◌<◌, ◌≤◌, [], None, true, false, IfNone, IfSome, OnOk, length};
 ghost use Rattle.lx_scan.specs.Cursors.{listed};
-ghost use Rattle.lx_scan.specs.Streams.{Gives, IsDrained, IsKept, IsProgress, first_stream, stream_at};
+ghost use Rattle.lx_scan.specs.Streams.{Gives, GivesTo, IsDrained, IsKept, IsProgress, first_stream, stream_at};
 
 use crate::cursor::Cursor;
 use crate::item::Item;
+use crate::list::ItemList;
 use crate::place::{Match, Place};
 use crate::walk::{Walk, decide, has_step, walk_on};
 use lx_tables::Tables;
 use lx_tables::well_formed::tables_are_well_formed;
+use std::alloc::AllocError;
 
 /// The progress in the bytes that are kept of a text: the number of them up to the end of the last match, the cursor after that match, and the walk
 /// over the match in progress.
@@ -121,5 +123,53 @@ impl Progress {
             item = self.next_due(tables, bytes, has_ended);
         }
         item
+    }
+
+    /// Appends the next items to a list until it has `most`, or all that are decided.
+    pub(crate) fn next_items(
+        &mut self,
+        tables: &Tables,
+        bytes: &[u8],
+        has_ended: bool,
+        most: usize,
+        items: &mut ItemList,
+    ) -> Result<(), AllocError>
+        requires parts { IsProgress tables.now bytes.now self.old }
+        requires few { length items.old ≤ most }
+        ensures parts { IsProgress tables.now bytes.now self.new }
+        ensures gives { OnOk result (GivesTo (stream_at tables.now bytes.now self.old has_ended)
+            (stream_at tables.now bytes.now self.new has_ended) items.old items.new) }
+        ensures most { OnOk result (length items.new ≤ most) }
+        ensures drained { OnOk result (length items.new < most
+            → IsDrained (stream_at tables.now bytes.now self.new has_ended)) }
+    {
+        'further: while items.len() < most {
+            let Some(item) = self.next_item(tables, bytes, has_ended) else {
+                return Ok(());
+            };
+            items.push(item)?;
+        }
+        Ok(())
+    }
+
+    /// Appends all items that are decided to a list.
+    pub(crate) fn all_items(
+        &mut self,
+        tables: &Tables,
+        bytes: &[u8],
+        has_ended: bool,
+        items: &mut ItemList,
+    ) -> Result<(), AllocError>
+        requires parts { IsProgress tables.now bytes.now self.old }
+        ensures parts { IsProgress tables.now bytes.now self.new }
+        ensures gives { OnOk result (GivesTo (stream_at tables.now bytes.now self.old has_ended)
+            (stream_at tables.now bytes.now self.new has_ended) items.old items.new) }
+        ensures drained { OnOk result
+            (IsDrained (stream_at tables.now bytes.now self.new has_ended)) }
+    {
+        'further: while let Some(item) = self.next_item(tables, bytes, has_ended) {
+            items.push(item)?;
+        }
+        Ok(())
     }
 }

@@ -1,7 +1,7 @@
-use Rattle.std.proofs.Common.{◌≡◌, ◌+◌, ◌-◌, ◌<◌, ◌≤◌, ◌++◌, ℕ, List, drop, length, sym, subst, ◌∙◌, ap, arith}
+use Rattle.std.proofs.Common.{◌≡◌, ◌+◌, ◌-◌, ◌<◌, ◌≤◌, ◌++◌, ℕ, List, drop, length, subst, ◌∙◌, ap, arith}
 use Rattle.std.proofs.lemmas.List.{length-drop}
 use Rattle.lx_scan.specs.Streams.{Feeds, Stream, stream_of}
-use Rattle.lx_scan.proofs.Blocks.{feed_feeds, feed_parts}
+use Rattle.lx_scan.proofs.Streaming.{feed_feeds, feed_parts}
 use Rattle.lx_scan.proofs.block_scanner.BlockScanner.feed.Goals as goal
 use Rattle.lx_scan.proofs.block_scanner.BlockScanner.feed.Goals.{then-unused-held, else-unused-held}
 

@@ -1,7 +1,7 @@
 use Rattle.std.proofs.Common.{◌≡◌, ◌+◌, ◌-◌, ℕ, List, sym, ap, subst, ◌∙◌}
 use Rattle.std.specs.Prelude.{slice_range}
 use Rattle.lx_scan.specs.Streams.{IsFedOf, IsKept, Stream, stream_at}
-use Rattle.lx_scan.proofs.Blocks.{bytes_text}
+use Rattle.lx_scan.proofs.Streaming.{bytes_text}
 use Rattle.lx_scan.proofs.block_scanner.BlockScanner.text.Goals as goal
 
 pub returns : goal.returns

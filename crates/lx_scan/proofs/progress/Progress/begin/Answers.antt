@@ -1,5 +1,5 @@
 use Rattle.std.proofs.Common.{[]}
-use Rattle.lx_scan.proofs.Blocks.{first_parts}
+use Rattle.lx_scan.proofs.Streaming.{first_parts}
 use Rattle.lx_scan.proofs.progress.Progress.begin.Goals as goal
 
 pub returns-clause-parts : goal.returns-clause-parts

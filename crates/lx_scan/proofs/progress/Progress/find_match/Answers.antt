@@ -1,7 +1,7 @@
-use Rattle.std.proofs.Common.{◌≡◌, ◌-◌, Bool, true, false, List, ℕ, length, take, drop, sym, subst}
+use Rattle.std.proofs.Common.{◌-◌, Bool, List, ℕ, length, take, drop, sym, subst}
 use Rattle.std.proofs.lemmas.List.{take_rest}
 use Rattle.lx_scan.specs.Streams.{GoesOnBy, IsDecided}
-use Rattle.lx_scan.proofs.Blocks.{gives_match}
+use Rattle.lx_scan.proofs.Streaming.{gives_match}
 use Rattle.lx_scan.proofs.Walking.{decided_anyhow, walk_dead, walk_ended}
 use Rattle.lx_scan.proofs.progress.Progress.find_match.Goals as goal
 use Rattle.lx_scan.proofs.progress.Progress.find_match.Goals.{else-not-is_stuck-via-then-not-is_stuck+then-not-has_ended+else-has_step, else-not-is_stuck-via-then-not-is_stuck+else-not-has_ended, else-not-is_stuck-via-else-not-is_stuck}

@@ -1,6 +1,6 @@
 use Rattle.lx_scan.specs.Cursors.{steps_left}
 use Rattle.lx_scan.specs.Steps.{items_of_steps}
-use Rattle.lx_scan.proofs.Blocks.{due_kept}
+use Rattle.lx_scan.proofs.Streaming.{due_kept}
 use Rattle.lx_scan.proofs.progress.Progress.next_due.Goals as goal
 
 pub returns-clause-kept : goal.returns-clause-kept

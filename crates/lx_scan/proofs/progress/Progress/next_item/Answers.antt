@@ -1,6 +1,6 @@
 use Rattle.lx_scan.specs.Cursors.{listed}
 use Rattle.lx_scan.specs.Streams.{stream_at}
-use Rattle.lx_scan.proofs.Blocks.{gives_on}
+use Rattle.lx_scan.proofs.Streaming.{gives_on}
 use Rattle.lx_scan.proofs.progress.Progress.next_item.Goals as goal
 
 pub loop-item-preserved : goal.loop-item-preserved

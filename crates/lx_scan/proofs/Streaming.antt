@@ -1,9 +1,11 @@
 -- A scanner that is fed a text in blocks, by its parts.
-use Rattle.std.proofs.Common.{◌≡◌, ℕ, zero, suc, ◌+◌, ◌-◌, ◌<◌, ◌≤◌, ◌⊎◌, inl, inr, Bool, false, true, List, [], ◌∷◌, ◌++◌, Option, Some, None, length, take, drop, refl, sym, ap, ap₂, subst, ◌∙◌, arith}
-use Rattle.std.specs.Prelude.{IfSome, IsTrue, slice_range}
-use Rattle.std.specs.Option.{ForSome, is_some}
-use Rattle.std.proofs.lemmas.List.{append-nil, append_assoc, drop-append-le, drop-take, length-append, length-drop, length-take, take-append-le, take-take}
-use Rattle.std.proofs.Math.Seq.{take-add}
+use Rattle.std.proofs.Common.{◌≡◌, ℕ, suc, ◌+◌, ◌-◌, ◌<◌, ◌≤◌, inl, Bool, false, true, List, [], ◌∷◌, ◌++◌, Option, Some, None, length, take, drop, refl, sym, ap, ap₂, subst, ◌∙◌, arith}
+use Rattle.std.specs.Prelude.{IfSome, IsTrue, flat_map, get_or, replicate, slice_range}
+use Rattle.std.specs.Option.{is_some}
+use Rattle.std.proofs.lemmas.List.{append-nil, append_assoc, drop-append-le, drop-take, length-append, length-drop, length-replicate, length-take, take-append-le, take-take, take_more}
+use Rattle.std.proofs.lemmas.Grind.{flat_map-append}
+use Rattle.std.proofs.lemmas.List.Elements.{All-append, All-cons, All-nil, All-weaker}
+use Rattle.std.proofs.Math.Seq.{drop-append_seam, take-add, take-append_seam}
 use Rattle.lx_rules.specs.declared.rule.Step.{Step}
 use Rattle.lx_rules.specs.declared.rule.Step.TheVariants.{Echo, Begin, Return}
 use Rattle.lx_tables.specs.Model.{IsTable, Table}
@@ -13,10 +15,10 @@ use Rattle.lx_scan.specs.declared.place.Match.{Match}
 use Rattle.lx_scan.specs.declared.place.Place.{Place}
 use Rattle.lx_scan.specs.Cursors.{listed, steps_left}
 use Rattle.lx_scan.specs.ItemParts.{len_of, start_of, text_of}
-use Rattle.lx_scan.specs.Items.{first_place, items_after}
+use Rattle.lx_scan.specs.Items.{first_place, items_after, items_of}
 use Rattle.lx_scan.specs.Steps.{items_of_steps}
-use Rattle.lx_scan.specs.Streams.{AreParts, Feeds, Gives, GoesOnBy, IsDrained, IsKept, IsFedOf, IsOpen, IsOver, IsWalked, Stream, left_in, stream_of}
-use Rattle.lx_scan.proofs.Cursors.{none_at_end}
+use Rattle.lx_scan.specs.Streams.{AreParts, Feeds, Gives, GivesTo, GoesOnBy, HasScanned, IsDrained, IsKept, IsFedOf, IsOver, IsWalked, Stream, first_stream, left_in, stream_of}
+use Rattle.lx_scan.proofs.Cursors.{begins}
 use Rattle.lx_scan.proofs.Turns.{drop_further}
 use Rattle.lx_scan.proofs.Walking.{walk_more}
 
@@ -45,6 +47,15 @@ pub gives_on : (a b c d : Stream) (item : Option Item) (more : List Item) → is
 gives_on a b c d None more none f g h = gives_then a b d [] more f (gives_then b c d [] more g h)
 gives_on a b c d (Some item) more none f g h = absurd (let no : true ≡ false = none in cc)
 
+-- one item more
+pub gives_to : (a b c : Stream) (before after new : List Item) (item : Item) → GivesTo a b before after → Gives b c (item ∷ []) → IsKept c item → new ≡ after ++ item ∷ [] → GivesTo a c before new
+gives_to a b c before after new item f g kept is = record {
+  given = f.given ++ item ∷ [];
+  after_is = is ∙ ap (λ (xs : List Item). xs ++ item ∷ []) f.after_is ∙ append_assoc before f.given (item ∷ []);
+  gives = gives_then a b c f.given (item ∷ []) f.gives g;
+  kept = All-append (IsKept c) f.given (item ∷ []) (All-weaker (IsKept b) (IsKept c) g.kept f.given f.kept) (All-cons (IsKept c) item [] kept (All-nil (IsKept c)));
+}
+
 -- an item of the last match
 pub gives_due : (a b : Stream) (item : Option Item) → b ≡ record a { due = b.due } → a.due ≡ listed item ++ b.due → Gives a b (listed item)
 gives_due a b item same due = record {
@@ -57,20 +68,6 @@ gives_due a b item same due = record {
       ∙ ap (λ (s : Stream). listed item ++ (b.due ++ items_after s.table text s.place)) (sym same);
   kept = λ item k. subst (λ (s : Stream). IsKept s item) (sym same) (record { from = k.from; to = k.to });
 }
-
--- nothing is left in a text that has ended
-pub is_over : (s : Stream) → IsDrained s → IsOver s
-is_over s d = record {
-  none_left = λ text ended fed.
-      ap₂ (λ (xs ys : List Item). xs ++ ys) d.none_due (none_at_end s.table text s.place (at_end text ended fed d.undecided));
-}
-  where
-    at_end : (text : List ℕ) → IsTrue s.has_ended → IsFedOf s text [] → (s.held ≡ []) ⊎ IsOpen s → s.place.offset ≡ length text
-    at_end text ended fed (inl none) =
-        let empty : drop s.place.offset text ≡ [] = fed.held ∙ append-nil s.held ∙ none in
-        let no_len : length (drop s.place.offset text) ≡ 0 = ap length empty in
-        omega (arith, no_len, length-drop s.place.offset text, fed.within)
-    at_end text ended fed (inr going) = absurd (let e = going.goes_on in let no : true ≡ false = sym ended ∙ e in cc)
 
 -- ---- the item's bytes
 first_item : (steps : List Step) (line start len : ℕ) (item : Item) (more : List Item) → items_of_steps steps line start len ≡ item ∷ more → (start_of item ≡ start) × (len_of item ≡ len)
@@ -343,3 +340,107 @@ module _ (table : Table) (bytes block : List ℕ) (start : ℕ) (c : Cursor) (re
       is = ap (λ (xs : List ℕ). stream_of table xs (start - removed) c ended) new_is
           ∙ stream_removed table (bytes ++ block) start c read state last both removed unused ended
           ∙ ap₂ (λ (k h : List ℕ). record (stream_of table bytes start c ended) { kept = drop removed k; held = h }) (kept_fed table bytes block start c read state last parts) (held_fed table bytes block start c read state last parts)
+
+-- ---- whole runs
+--  a text that goes on with the bytes that are kept and held, and ends after them
+pub text_ahead : Stream → List ℕ
+text_ahead s = replicate (s.place.offset - length s.kept) 0 ++ (s.kept ++ s.held)
+
+pub fed_ahead : (s : Stream) → length s.kept ≤ s.place.offset → IsFedOf s (text_ahead s) []
+unfolding text_ahead
+fed_ahead s few =
+    let base : ℕ = s.place.offset - length s.kept in
+    let zeros : List ℕ = replicate base 0 in
+    let whole : s.place.offset ≡ base + length s.kept = omega arith in
+    let zeros_len : length zeros ≡ base = length-replicate base 0 in
+    let behind : drop base (zeros ++ (s.kept ++ s.held)) ≡ s.kept ++ s.held
+    = ap (λ (n : ℕ). drop n (zeros ++ (s.kept ++ s.held))) (sym zeros_len) ∙ drop-append_seam zeros (s.kept ++ s.held) in
+    let count : s.place.offset - base ≡ length s.kept = omega arith in
+    record {
+      within = omega (arith, zeros_len, length-append zeros (s.kept ++ s.held), length-append s.kept s.held);
+      held = ap (λ (n : ℕ). drop n (zeros ++ (s.kept ++ s.held))) whole ∙ sym (drop_further (zeros ++ (s.kept ++ s.held)) base (length s.kept))
+          ∙ ap (λ (w : List ℕ). drop (length s.kept) w) behind ∙ drop-append_seam s.kept s.held ∙ sym (append-nil s.held);
+      kept = ap₂ (λ (n : ℕ) (w : List ℕ). take n w) count behind ∙ take-append_seam s.kept s.held;
+      end = λ ended. refl;
+    }
+
+pub begins_scanned : (table : Table) (s : Stream) → s ≡ first_stream table → HasScanned s [] []
+begins_scanned table s is = subst (λ (t : Stream). HasScanned t [] []) (sym is) (record {
+  fed = λ rest end. record { within = omega arith; held = refl; kept = refl; end = end };
+  items = λ rest end. sym (begins table rest);
+})
+
+pub feeds_scanned : (a b : Stream) (front block : List ℕ) (given : List Item) → a.has_ended ≡ false → Feeds a b block → HasScanned a front given → HasScanned b (front ++ block) given
+feeds_scanned a b front block given goes_on f h = record {
+  fed = λ rest end.
+      let same = append_assoc front block rest in
+      subst (λ (text : List ℕ). IsFedOf b text rest) (sym same) (f.fed (front ++ (block ++ rest)) rest (h.fed (block ++ rest) going));
+  items = λ rest end.
+      let table : b.table ≡ a.table = ap (λ (s : Stream). s.table) f.same in
+      let same = append_assoc front block rest in
+      ap₂ (λ (t : Table) (text : List ℕ). items_of t text) table same ∙ h.items (block ++ rest) going
+      ∙ ap (λ (xs : List Item). given ++ xs) (sym (f.items (front ++ (block ++ rest))))
+      ∙ ap (λ (text : List ℕ). given ++ left_in b text) (sym same);
+}
+  where
+    going : {xs : List ℕ} → IsTrue a.has_ended → xs ≡ []
+    going ended = absurd (let no : true ≡ false = sym ended ∙ goes_on in cc)
+
+pub gives_scanned : (a b : Stream) (front : List ℕ) (before after : List Item) → GivesTo a b before after → HasScanned a front before → HasScanned b front after
+gives_scanned a b front before after g h = record {
+  fed = λ rest end. g.gives.fed (front ++ rest) rest (h.fed rest (ended end));
+  items = λ rest end.
+      ap (λ (t : Table). items_of t (front ++ rest)) g.gives.table ∙ h.items rest (ended end)
+      ∙ ap (λ (xs : List Item). before ++ xs) (g.gives.items (front ++ rest) rest (h.fed rest (ended end)))
+      ∙ sym (append_assoc before g.given (left_in b (front ++ rest)))
+      ∙ ap (λ (xs : List Item). xs ++ left_in b (front ++ rest)) (sym g.after_is);
+}
+  where
+    ended : {rest : List ℕ} → (IsTrue b.has_ended → rest ≡ []) → IsTrue a.has_ended → rest ≡ []
+    ended end e = end (g.gives.end ∙ e)
+
+-- the text ends after the bytes
+pub ends_scanned : (a b : Stream) (front : List ℕ) (given : List Item) → a.has_ended ≡ false → b ≡ record a { has_ended = true } → HasScanned a front given → HasScanned b front given
+ends_scanned a b front given goes_on is h = subst (λ (s : Stream). HasScanned s front given) (sym is) (record {
+  fed = λ rest end. let f = h.fed rest going in record { within = f.within; held = f.held; kept = f.kept; end = end };
+  items = λ rest end. h.items rest going;
+})
+  where
+    going : {xs : List ℕ} → IsTrue a.has_ended → xs ≡ []
+    going ended = absurd (let no : true ≡ false = sym ended ∙ goes_on in cc)
+
+pub all_scanned : (s : Stream) (front : List ℕ) (given : List Item) → IsTrue s.has_ended → IsOver s → HasScanned s front given → given ≡ items_of s.table front
+all_scanned s front given ended over h =
+    let end : IsTrue s.has_ended → [] ≡ [] = λ e. refl in
+    let whole : front ++ [] ≡ front = append-nil front in
+    sym (
+    ap (λ (text : List ℕ). items_of s.table text) (sym whole) ∙ h.items [] end
+    ∙ ap (λ (xs : List Item). given ++ xs) (over.none_left (front ++ []) ended (h.fed [] end)) ∙ append-nil given)
+
+-- fewer items are left after one was given
+module _ (s a b : Stream) (before after : List Item) (few : length s.kept ≤ s.place.offset) (f : GivesTo s a before after) where
+  fed_there : IsFedOf a (text_ahead s) []
+  fed_there = f.gives.fed (text_ahead s) [] (fed_ahead s few)
+
+  pub fewer_left : (item : Item) → Gives a b (item ∷ []) → length (left_in b (text_ahead s)) < length (left_in a (text_ahead s))
+  fewer_left item g =
+      let len : length (left_in a (text_ahead s)) ≡ suc (length (left_in b (text_ahead s))) = ap length (g.items (text_ahead s) [] fed_there) in
+      omega (arith, len)
+
+pub kept_few : (table : Table) (bytes : List ℕ) (start : ℕ) (c : Cursor) (read state : ℕ) (last : Option (ℕ × ℕ)) (ended : Bool) → AreParts table bytes start c read state last →
+    length (stream_of table bytes start c ended).kept ≤ c.place.offset
+kept_few table bytes start c read state last ended parts = let front = parts.front in omega (arith, length-take start bytes)
+
+-- one block more
+pub front_more : {X : Type 0} (f : X → List ℕ) (front : List ℕ) (xs : List X) (i : ℕ) (x : X) → i < length xs → get_or xs i x ≡ x → (front ++ flat_map f (take i xs)) ++ f x ≡ front ++ flat_map f (take (i + 1) xs)
+front_more {X = X} f front xs i x more is =
+    append_assoc front (flat_map f (take i xs)) (f x)
+    ∙ ap (λ (w : List ℕ). front ++ w) (
+    ap (λ (w : List ℕ). flat_map f (take i xs) ++ w) (sym (append-nil (f x)))
+    ∙ sym (flat_map-append f (take i xs) (x ∷ []))
+    ∙ ap (λ (y : X). flat_map f (take i xs ++ y ∷ [])) (sym is)
+    ∙ ap (flat_map f) (sym (take_more xs i x more)))
+
+-- a new scanner is drained
+pub first_drained : (table : Table) (s : Stream) → s ≡ first_stream table → IsDrained s
+first_drained table s is = subst IsDrained (sym is) (record { none_due = refl; undecided = inl refl })
