@@ -17,10 +17,10 @@ use Rattle.lx_scan.specs.Cursors.{listed, steps_left}
 use Rattle.lx_scan.specs.ItemParts.{len_of, start_of, text_of}
 use Rattle.lx_scan.specs.Items.{first_place, items_after, items_of}
 use Rattle.lx_scan.specs.Steps.{items_of_steps}
-use Rattle.lx_scan.specs.Streams.{AreParts, Feeds, Gives, GivesTo, GoesOnBy, HasScanned, IsDrained, IsKept, IsFedOf, IsOver, IsWalked, Stream, first_stream, left_in, stream_of}
+use Rattle.lx_scan.specs.Streams.{AreParts, Feeds, Gives, GivesTo, GoesOnBy, HasScanned, IsDrained, IsKept, IsFedOf, IsOver, IsSilentSince, IsWalked, Stream, first_stream, left_in, stream_of}
 use Rattle.lx_scan.proofs.Cursors.{begins}
 use Rattle.lx_scan.proofs.Turns.{drop_further}
-use Rattle.lx_scan.proofs.Walking.{walk_more}
+use Rattle.lx_scan.proofs.Walking.{silent_more, walk_more}
 
 -- ---- lists
 drop_take : (n m : ℕ) (xs : List ℕ) → n ≤ m → drop n (take m xs) ≡ take (m - n) (drop n xs)
@@ -168,6 +168,23 @@ first_parts table place read state last is first walk =
     }
 
 -- ---- the next match
+--  the same place, and the walk further on
+pub with_walk : (table : Table) (bytes : List ℕ) (start : ℕ) (c : Cursor) (read state read_new state_new : ℕ) (last last_new : Option (ℕ × ℕ)) → AreParts table bytes start c read state last →
+    IsWalked table c.place (drop start bytes) read_new state_new last_new → AreParts table bytes start c read_new state_new last_new
+with_walk table bytes start c read state read_new state_new last last_new parts walk = record {
+  is_table = parts.is_table;
+  within = parts.within;
+  found = parts.found;
+  front = parts.front;
+  behind = parts.behind;
+  known = parts.known;
+  line_some = parts.line_some;
+  line_few = parts.line_few;
+  rule = parts.rule;
+  few = parts.few;
+  walk = walk;
+}
+
 module _ (table : Table) (bytes : List ℕ) (start : ℕ) (c : Cursor) (read state : ℕ) (last : Option (ℕ × ℕ)) (ended : Bool) (m : Match) (next : Place)
     (parts : AreParts table bytes start c read state last) (due : items_of_steps (steps_left table c) c.line c.found.start c.found.len ≡ []) (goes : GoesOnBy table c.place (drop start bytes) ended m next) where
   abbrev cursor : Cursor
@@ -329,6 +346,12 @@ module _ (table : Table) (bytes block : List ℕ) (start : ℕ) (c : Cursor) (re
 
   pub feed_parts : AreParts table new (start - removed) c read state last
   feed_parts = subst (λ (xs : List ℕ). AreParts table xs (start - removed) c read state last) (sym new_is) (parts_removed table (bytes ++ block) start c read state last both removed unused)
+
+  pub feed_silent : (since back : ℕ) → IsSilentSince table.machine (drop start bytes) read state since back → IsSilentSince table.machine (drop (start - removed) new) read state since back
+  feed_silent since back s =
+      let same : drop (start - removed) new ≡ drop start bytes ++ block
+      = ap (λ (xs : List ℕ). drop (start - removed) xs) new_is ∙ held_same table (bytes ++ block) start c read state last both removed unused ∙ held_fed table bytes block start c read state last parts in
+      subst (λ (held : List ℕ). IsSilentSince table.machine held read state since back) (sym same) (silent_more table.machine (drop start bytes) block read state since back s)
 
   pub feed_feeds : (ended : Bool) → Feeds (stream_of table bytes start c ended) (stream_of table new (start - removed) c ended) block
   feed_feeds ended = feeds (stream_of table bytes start c ended) (stream_of table new (start - removed) c ended) block removed (omega (arith, kept_len, parts.front)) (omega (arith, kept_len, unused)) is

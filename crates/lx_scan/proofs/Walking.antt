@@ -1,22 +1,25 @@
 -- Walks over the bytes of a match in progress, whatever bytes follow.
 use Rattle.std.proofs.Common.{◌≡◌, ℕ, zero, suc, ◌+◌, ◌-◌, ◌<◌, ◌≤◌, ◌==◌, ◌&&◌, inl, inr, nat_lt, if◌then◌else◌, Bool, false, true, List, [], ◌∷◌, ◌++◌, Option, Some, None, length, take, drop, refl, sym, ap, ap₂, subst, ◌∙◌, arith}
-use Rattle.std.specs.Prelude.{IsTrue, slice_index, nat_eq}
+use Rattle.std.specs.Prelude.{IsTrue, MatchOption, ◌*◌, ◌/◌, nat_eq, replicate, slice_index}
 use Rattle.std.specs.Option.{option_map, option_or, ForSome}
 use Rattle.std.proofs.lemmas.Bool.{and_parts, cases_lt, eqb-true, ltb-true}
-use Rattle.std.proofs.lemmas.List.{append-nil, get_or_append_left, get_or_past, length-append, length-drop, take-append-le, take_rest}
-use Rattle.std.proofs.Math.Seq.{get_or-append_seam}
+use Rattle.std.proofs.lemmas.List.{append-nil, append_assoc, drop-append-le, get_or-append_right, get_or_append_left, get_or_past, length-append, length-drop, take-append-le, take_all, take_rest}
 use Rattle.lx_automaton.specs.Automata.{Machine, accepted_by, answer, are_numbered, class_target, start_of, state_after, state_count, target_of}
 use Rattle.lx_tables.specs.Model.{IsTable, Table}
+use Rattle.lx_scan.specs.declared.memory.FailedState.{FailedState}
+use Rattle.lx_scan.specs.declared.memory.ScanMemory.{ScanMemory}
 use Rattle.lx_scan.specs.declared.place.Match.{Match}
 use Rattle.lx_scan.specs.declared.place.Place.{Place}
 use Rattle.lx_scan.specs.Answers.{furthest, match_after, token_len}
+use Rattle.lx_scan.specs.Failing.{AreFailed, IsFailed, IsMemoryOf}
 use Rattle.lx_scan.specs.Items.{steps_at}
 use Rattle.lx_scan.specs.Matching.{GoesOn, IsFound, choice_in}
 use Rattle.lx_scan.specs.Steps.{condition_after, newlines}
-use Rattle.lx_scan.specs.Streams.{GoesOnBy, IsDecided, IsWalked}
+use Rattle.lx_scan.specs.Streams.{GoesOnBy, IsDecided, IsOpenMemory, IsSilentSince, IsStopped, IsWalked}
 use Rattle.lx_scan.proofs.Choosing.{accepted_known}
-use Rattle.lx_scan.proofs.Stepping.{HasRead, reads_all, reads_no_more, reads_on}
-use Rattle.lx_scan.proofs.Turns.{found_is, goes_on, takes}
+use Rattle.lx_scan.proofs.Failing.{fails_back, fails_end, fails_on, fails_stuck, reads_in_vain}
+use Rattle.lx_scan.proofs.Stepping.{HasRead, reads_on}
+use Rattle.lx_scan.proofs.Turns.{drop_further, found_is, goes_on, takes}
 
 -- ---- bytes that follow
 furthest_more : (table : Table) (condition : ℕ) (begin : Bool) (held rest : List ℕ) (n : ℕ) → n ≤ length held →
@@ -55,36 +58,147 @@ module _ (table : Table) (place : Place) (held : List ℕ) where
       = reads_on table place.condition place.at_line_begin held read state next last new more step known is_new (record { within = w.within; known = w.known; there = w.there; furthest = w.furthest }) in
       record { within = r.within; known = r.known; there = r.there; furthest = r.furthest }
 
-  -- a step is missing
-  pub walk_stuck : (read state : ℕ) (last : Option (ℕ × ℕ)) → read < length held → target_of table.machine state (slice_index held read) ≡ None → IsWalked table place held read state last → IsDecided table place held false last
-  walk_stuck read state last more missing w = record {
-    last_is = λ rest end.
-        reads_no_more table place.condition place.at_line_begin (held ++ rest) read state (slice_index held read) last (omega (arith, more, length-append held rest))
-        (get_or_append_left held rest 0 read more) missing (read_of rest read state last w);
+  -- nothing is accepted since the begin
+  pub silent_begun : (m : Machine) (state : ℕ) → state < state_count m → IsSilentSince m held 0 state 0 state
+  silent_begun m state known = record { order = omega arith; known = known; silent = λ rest f. f }
+
+  -- ---- where a walk stops
+  --  nothing more is accepted: the rule is decided
+  pub walk_decided : (ended : Bool) (read state : ℕ) (last : Option (ℕ × ℕ)) → IsWalked table place held read state last → IsStopped table.machine held ended read state → IsDecided table place held ended last
+  walk_decided ended read state last w stopped = record {
+    last_is = λ rest end. reads_in_vain table place.condition place.at_line_begin (held ++ rest) read state last (read_of rest read state last w) (stopped.failed rest end);
   }
 
-  -- what is decided while the text goes on is so at its end
-  pub decided_anyhow : (ended : Bool) (last : Option (ℕ × ℕ)) → IsDecided table place held false last → IsDecided table place held ended last
-  decided_anyhow ended last d = record { last_is = λ rest end. d.last_is rest (λ no. absurd (let f : false ≡ true = no in cc)) }
+module _ (m : Machine) (held : List ℕ) where
+  further_byte : (rest : List ℕ) (read : ℕ) → read < length held → slice_index (held ++ rest) read ≡ slice_index held read
+  further_byte rest read more = get_or_append_left held rest 0 read more
+
+  longer : (rest : List ℕ) (read : ℕ) → read < length held → read < length (held ++ rest)
+  longer rest read more = omega (arith, more, length-append held rest)
+
+  -- a step is missing
+  pub stopped_stuck : (ended : Bool) (read state : ℕ) → read < length held → target_of m state (slice_index held read) ≡ None → IsStopped m held ended read state
+  stopped_stuck ended read state more missing = record {
+    failed = λ rest end. fails_stuck m (held ++ rest) read state (longer rest read more) (ap (λ (b : ℕ). target_of m state b) (further_byte rest read more) ∙ missing);
+  }
 
   -- the text ends after the bytes
-  pub walk_ended : (read state : ℕ) (last : Option (ℕ × ℕ)) → read ≡ length held → IsWalked table place held read state last → IsDecided table place held true last
-  walk_ended read state last all w = record {
-    last_is = λ rest end.
+  pub stopped_ended : (read state : ℕ) → read ≡ length held → IsStopped m held true read state
+  stopped_ended read state all = record {
+    failed = λ rest end.
         let none : rest ≡ [] = end refl in
-        reads_all table place.condition place.at_line_begin (held ++ rest) read state last
-        (let len = length-append held rest in let empty : length rest ≡ 0 = ap length none in omega arith) (read_of rest read state last w);
+        fails_end m (held ++ rest) read state (let len = length-append held rest in let empty : length rest ≡ 0 = ap length none in omega arith);
   }
 
   -- no byte has a step after them
-  pub walk_dead : (ended : Bool) (read state : ℕ) (last : Option (ℕ × ℕ)) → read ≡ length held → ((byte : ℕ) → target_of table.machine state byte ≡ None) → IsWalked table place held read state last → IsDecided table place held ended last
-  walk_dead ended read state last all dead w = record { last_is = λ rest end. on rest }
+  pub stopped_dead : (ended : Bool) (read state : ℕ) → read ≡ length held → ((byte : ℕ) → target_of m state byte ≡ None) → IsStopped m held ended read state
+  stopped_dead ended read state all dead = record { failed = λ rest end. on rest }
     where
-      on : (rest : List ℕ) → last ≡ furthest table place.condition place.at_line_begin (held ++ rest) (length (held ++ rest))
-      on [] = reads_all table place.condition place.at_line_begin (held ++ []) read state last (omega (arith, all, length-append held [])) (read_of [] read state last w)
-      on (byte ∷ rest) =
-          reads_no_more table place.condition place.at_line_begin (held ++ byte ∷ rest) read state byte last (let len = length-append held (byte ∷ rest) in omega arith)
-          (ap (λ (n : ℕ). slice_index (held ++ byte ∷ rest) n) all ∙ get_or-append_seam held byte rest 0) (dead byte) (read_of (byte ∷ rest) read state last w)
+      on : (rest : List ℕ) → IsFailed m (drop read (held ++ rest)) state
+      on [] = fails_end m (held ++ []) read state (omega (arith, all, length-append held []))
+      on (byte ∷ rest) = fails_stuck m (held ++ byte ∷ rest) read state (let len = length-append held (byte ∷ rest) in omega arith) (dead (slice_index (held ++ byte ∷ rest) read))
+
+  -- one step further
+  pub silent_on : (read state next since back since_new back_new : ℕ) → read < length held → target_of m state (slice_index held read) ≡ Some next → next < state_count m →
+      MatchOption (accepted_by m next) ((since_new ≡ since) × (back_new ≡ back)) (λ _. (since_new ≡ read + 1) × (back_new ≡ next)) → IsSilentSince m held read state since back →
+      IsSilentSince m held (read + 1) next since_new back_new
+  silent_on read state next since back since_new back_new more step known since_is s = on (accepted_by m next) refl since_is
+    where
+      on : (a : Option ℕ) → accepted_by m next ≡ a → MatchOption a ((since_new ≡ since) × (back_new ≡ back)) (λ _. (since_new ≡ read + 1) × (back_new ≡ next)) → IsSilentSince m held (read + 1) next since_new back_new
+      on None none same =
+          let order = s.order in
+          let place : since_new ≡ since = same.0 in
+          record {
+            order = omega arith;
+            known = subst (λ (n : ℕ). n < state_count m) (sym same.1) s.known;
+            silent = λ rest f.
+                let before : IsFailed m (drop since (held ++ rest)) back
+                = s.silent rest (fails_back m (held ++ rest) read state (longer rest read more) next (ap (λ (b : ℕ). target_of m state b) (further_byte rest read more) ∙ step) none f) in
+                subst (λ (n : ℕ). IsFailed m (drop n (held ++ rest)) back_new) (sym same.0) (subst (λ (n : ℕ). IsFailed m (drop since (held ++ rest)) n) (sym same.1) before);
+          }
+      on (Some rule) accepted here =
+          let place : since_new ≡ read + 1 = here.0 in
+          record {
+            order = omega arith;
+            known = subst (λ (n : ℕ). n < state_count m) (sym here.1) known;
+            silent = λ rest f. subst (λ (n : ℕ). IsFailed m (drop n (held ++ rest)) back_new) (sym here.0) (subst (λ (n : ℕ). IsFailed m (drop (read + 1) (held ++ rest)) n) (sym here.1) f);
+          }
+
+  -- a block is fed
+  pub silent_more : (block : List ℕ) (read state since back : ℕ) → IsSilentSince m held read state since back → IsSilentSince m (held ++ block) read state since back
+  silent_more block read state since back s = record {
+    order = s.order;
+    known = s.known;
+    silent = λ rest f.
+        let same = append_assoc held block rest in
+        subst (λ (w : List ℕ). IsFailed m (drop since w) back) (sym same) (s.silent (block ++ rest) (subst (λ (w : List ℕ). IsFailed m (drop read w) state) same f));
+  }
+
+-- ---- a memory of the bytes
+module _ (table : Table) (bytes : List ℕ) (ended : Bool) where
+  -- the bytes that are held, from a position on
+  behind : (start n : ℕ) (rest : List ℕ) → start ≤ length bytes → drop (start + n) (bytes ++ rest) ≡ drop n (drop start bytes ++ rest)
+  behind start n rest within = sym (drop_further (bytes ++ rest) start n) ∙ ap (λ (w : List ℕ). drop n w) (drop-append-le start bytes rest within)
+
+  -- the memory knows that nothing more is accepted
+  pub stopped_known : (start read state : ℕ) (memory : ScanMemory) → start ≤ length bytes → IsOpenMemory table bytes ended memory →
+      ((t : Table) (text : List ℕ) → IsMemoryOf t text memory → IsFailed t.machine (drop (start + read) text) state) → IsStopped table.machine (drop start bytes) ended read state
+  stopped_known start read state memory within is known = record {
+    failed = λ rest end. subst (λ (w : List ℕ). IsFailed table.machine w state) (behind start read rest within) (known table (bytes ++ rest) (is.is_memory rest end));
+  }
+
+  -- what is remembered holds of each text
+  pub remembered : (before after : ScanMemory) (at state : ℕ) → IsOpenMemory table bytes ended before → ((rest : List ℕ) → (ended ≡ true → rest ≡ []) → IsFailed table.machine (drop at (bytes ++ rest)) state) →
+      ((t : Table) (text : List ℕ) → IsMemoryOf t text before → IsFailed t.machine (drop at text) state → IsMemoryOf t text after) → IsOpenMemory table bytes ended after
+  remembered before after at state is failed keeps = record { is_memory = λ rest end. keeps table (bytes ++ rest) (is.is_memory rest end) (failed rest end) }
+
+  -- nothing is forgotten
+  pub grown : (before after : ScanMemory) → IsOpenMemory table bytes ended before → ((t : Table) (text : List ℕ) → IsMemoryOf t text before → IsMemoryOf t text after) → IsOpenMemory table bytes ended after
+  grown before after is keeps = record { is_memory = λ rest end. keeps table (bytes ++ rest) (is.is_memory rest end) }
+
+  -- the bytes since the walk accepted last
+  pub failed_since : (start read state since back : ℕ) → start ≤ length bytes → IsSilentSince table.machine (drop start bytes) read state since back → IsStopped table.machine (drop start bytes) ended read state →
+      (rest : List ℕ) → (ended ≡ true → rest ≡ []) → IsFailed table.machine (drop (start + since) (bytes ++ rest)) back
+  failed_since start read state since back within s stopped rest end =
+      subst (λ (w : List ℕ). IsFailed table.machine w back) (sym (behind start since rest within)) (s.silent rest (stopped.failed rest end))
+
+  -- one byte further
+  pub failed_on : (at state next : ℕ) → at < length bytes → target_of table.machine state (slice_index bytes at) ≡ Some next → ((rest : List ℕ) → (ended ≡ true → rest ≡ []) → IsFailed table.machine (drop at (bytes ++ rest)) state) →
+      (rest : List ℕ) → (ended ≡ true → rest ≡ []) → IsFailed table.machine (drop (at + 1) (bytes ++ rest)) next
+  failed_on at state next more step failed rest end =
+      fails_on table.machine (bytes ++ rest) at state (longer table.machine bytes rest at more) next (ap (λ (b : ℕ). target_of table.machine state b) (further_byte table.machine bytes rest at more) ∙ step) (failed rest end)
+
+-- more room for marks
+zeros : (k i : ℕ) → slice_index (replicate k 0) i ≡ 0
+zeros zero i = refl
+zeros (suc k) zero = refl
+zeros (suc k) (suc i) = zeros k i
+
+same_mark : (marks new : List ℕ) (n k slot : ℕ) (is_grown : Bool) → length marks ≤ n → new ≡ (if is_grown then take n marks ++ replicate k 0 else marks) → 0 < slice_index new slot → slice_index new slot ≡ slice_index marks slot
+same_mark marks new n k slot false few is some = ap (λ (xs : List ℕ). slice_index xs slot) is
+same_mark marks new n k slot true few is some =
+    let here : slice_index new slot ≡ slice_index (marks ++ replicate k 0) slot
+    = ap (λ (xs : List ℕ). slice_index xs slot) (is ∙ ap (λ (xs : List ℕ). xs ++ replicate k 0) (take_all n marks few)) in
+    elim (cases_lt slot (length marks)) as (λ _. slice_index new slot ≡ slice_index marks slot) [
+      | inl less ↦ here ∙ get_or_append_left marks (replicate k 0) 0 slot less
+      | inr more ↦ absurd (let none : slice_index new slot ≡ 0 = here ∙ get_or-append_right marks (replicate k 0) (length marks) slot 0 refl more ∙ zeros k (slot - length marks) in omega arith)
+    ]
+
+pub more_marks : (table : Table) (text marks new : List ℕ) (others : List (Option FailedState)) (n k : ℕ) (is_grown : Bool) → length marks ≤ n → new ≡ (if is_grown then take n marks ++ replicate k 0 else marks) →
+    AreFailed table text marks others → AreFailed table text new others
+more_marks table text marks new others n k is_grown few is m = record {
+  kept = λ slot some.
+      let same = same_mark marks new n k slot is_grown few is some in
+      subst (λ (mark : ℕ). IsFailed table.machine (drop (slot / 4 * 32) text) (mark - 1)) (sym same) (m.kept slot (subst (λ (mark : ℕ). 0 < mark) same some));
+  beside = m.beside;
+}
+
+-- a block is fed
+pub memory_more : (table : Table) (bytes block : List ℕ) (memory : ScanMemory) (ended : Bool) → ended ≡ false → IsOpenMemory table bytes ended memory → IsOpenMemory table (bytes ++ block) ended memory
+memory_more table bytes block memory ended going is = record {
+  is_memory = λ rest end.
+      subst (λ (text : List ℕ). IsMemoryOf table text memory) (sym (append_assoc bytes block rest)) (is.is_memory (block ++ rest) (λ e. absurd (let no : true ≡ false = sym e ∙ going in cc)));
+}
 
 -- ---- a state without a step
 first_class : (width : ℕ) (classes : List ℕ) → IsTrue (are_numbered 0 width classes) → slice_index classes 0 ≡ 0
@@ -104,7 +218,7 @@ no_step m state bytes numbered none byte = elim (cases_lt byte 256) [
       ap (λ (class : ℕ). class_target m state class) class ∙ none 0 (omega arith)
 ]
 
-pub ruleset walk_steps = (walk_begun, walks_on, walk_stuck)
+pub ruleset walk_steps = (walk_begun, silent_begun)
 
 -- ---- the match that is decided
 module _ (table : Table) (is : IsTable table) (place : Place) (held : List ℕ) (ended : Bool) (last : Option (ℕ × ℕ)) (d : IsDecided table place held ended last) where

@@ -1,15 +1,17 @@
 -- A scanner that is fed a text in blocks: the items that are left, in each text that begins with what was fed.
 use Rattle.std.specs.Prelude.{◌≡◌, ℕ, ◌+◌, ◌-◌, ◌^◌, ◌<◌, ◌≤◌, ◌⊎◌, All, Bool, false, IsTrue, List, [], ◌++◌, Option, Some, drop, length, slice_range, take}
 use Rattle.std.specs.Option.{ForSome}
-use Rattle.lx_automaton.specs.Automata.{start_of, state_after, state_count, target_of}
+use Rattle.lx_automaton.specs.Automata.{Machine, start_of, state_after, state_count, target_of}
 use Rattle.lx_tables.specs.Model.{IsTable, Table}
 use Rattle.lx_scan.specs.declared.cursor.Cursor.{Cursor}
 use Rattle.lx_scan.specs.declared.item.Item.{Item}
+use Rattle.lx_scan.specs.declared.memory.ScanMemory.{ScanMemory}
 use Rattle.lx_scan.specs.declared.place.Match.{Match}
 use Rattle.lx_scan.specs.declared.place.Place.{Place}
 use Rattle.lx_scan.specs.declared.progress.Progress.{Progress}
 use Rattle.lx_scan.specs.Answers.{furthest}
 use Rattle.lx_scan.specs.Cursors.{steps_left}
+use Rattle.lx_scan.specs.Failing.{IsFailed, IsMemoryOf}
 use Rattle.lx_scan.specs.ItemParts.{len_of, start_of as item_start}
 use Rattle.lx_scan.specs.Items.{first_place, items_after, items_of}
 use Rattle.lx_scan.specs.Matching.{GoesOn}
@@ -107,9 +109,23 @@ pub record IsWalked (table : Table) (place : Place) (held : List ℕ) (read stat
   pub there : state_after table.machine (Some (start_of table.machine place.condition place.at_line_begin)) (take read held) ≡ Some state
   pub furthest : last ≡ furthest table place.condition place.at_line_begin held read
 
--- This rule is the last one accepted from the place on, whatever bytes follow those that are held; none follow if the text has ended.
+-- After `since` bytes the walk was in the state `back`, and after none of the bytes read from there on is a rule accepted.
+pub record IsSilentSince (m : Machine) (held : List ℕ) (read state since back : ℕ) : Type 0 where
+  pub order : since ≤ read
+  pub known : back < state_count m
+  pub silent : (rest : List ℕ) → IsFailed m (drop read (held ++ rest)) state → IsFailed m (drop since (held ++ rest)) back
+
+-- From the state after the bytes that were read nothing more is accepted, whatever bytes follow those that are held; none follow if the text has ended.
+pub record IsStopped (m : Machine) (held : List ℕ) (has_ended : Bool) (read state : ℕ) : Type 0 where
+  pub failed : (rest : List ℕ) → (IsTrue has_ended → rest ≡ []) → IsFailed m (drop read (held ++ rest)) state
+
+-- This rule is the last one accepted from the place on, whatever bytes follow those that are held.
 pub record IsDecided (table : Table) (place : Place) (held : List ℕ) (has_ended : Bool) (last : Option (ℕ × ℕ)) : Type 0 where
   pub last_is : (rest : List ℕ) → (IsTrue has_ended → rest ≡ []) → last ≡ furthest table place.condition place.at_line_begin (held ++ rest) (length (held ++ rest))
+
+-- a memory of each text that goes on with the bytes in memory
+pub record IsOpenMemory (table : Table) (bytes : List ℕ) (has_ended : Bool) (memory : ScanMemory) : Type 0 where
+  pub is_memory : (rest : List ℕ) → (IsTrue has_ended → rest ≡ []) → IsMemoryOf table (bytes ++ rest) memory
 
 -- The match at the place, which lies in the bytes that are held, and the next place, whatever bytes follow.
 pub record GoesOnBy (table : Table) (place : Place) (held : List ℕ) (has_ended : Bool) (m : Match) (next : Place) : Type 0 where
@@ -148,8 +164,9 @@ pub record AreParts (table : Table) (bytes : List ℕ) (start : ℕ) (c : Cursor
   pub few : c.place.offset + length (drop start bytes) + 1 < 2 ^ 64
   pub walk : IsWalked table c.place (drop start bytes) read state last
 
-abbrev pub stream_at : Table → List ℕ → Progress → Bool → Stream
-stream_at table bytes p has_ended = stream_of table bytes p.start p.cursor has_ended
+abbrev pub stream_at : Table → List ℕ → Progress → Stream
+stream_at table bytes p = stream_of table bytes p.start p.cursor p.has_ended
 
-abbrev pub IsProgress : Table → List ℕ → Progress → Type 0
-IsProgress table bytes p = AreParts table bytes p.start p.cursor p.walk.read p.walk.state.0 p.walk.last
+pub record IsProgress (table : Table) (bytes : List ℕ) (p : Progress) : Type 0 where
+  pub parts : AreParts table bytes p.start p.cursor p.walk.read p.walk.state.0 p.walk.found.last
+  pub silent : IsSilentSince table.machine (drop p.start bytes) p.walk.read p.walk.state.0 p.walk.found.since p.walk.found.state.0

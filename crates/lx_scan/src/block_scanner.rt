@@ -1,12 +1,14 @@
 //! A scanner that is fed a text in blocks, and gives each item as soon as no further byte could change it.
 
-ghost use Rattle.std.specs.Prelude.{◌≡◌, ◌<◌, ◌≤◌, ℕ, List, true, false, IfNone, IfSome, OnErr, OnOk, drop, length};
+ghost use Rattle.std.specs.Prelude.{◌≡◌, ◌<◌, ◌≤◌, ℕ, Bool, List, true, false, IfNone, IfSome, OnErr, OnOk, drop, length};
+ghost use Rattle.lx_tables.specs.Model.{Table};
 ghost use Rattle.lx_scan.specs.Cursors.{listed};
 ghost use Rattle.lx_scan.specs.ItemParts.{len_of, start_of, text_of};
-ghost use Rattle.lx_scan.specs.Streams.{Feeds, Gives, GivesTo, IsDrained, IsFedOf, IsKept, IsOver, first_stream};
+ghost use Rattle.lx_scan.specs.Streams.{Feeds, Gives, GivesTo, IsDrained, IsFedOf, IsKept, IsOpenMemory, IsOver, first_stream};
 
 use crate::item::Item;
 use crate::list::ItemList;
+use crate::memory::ScanMemory;
 use crate::progress::Progress;
 use lx_tables::Tables;
 use std::alloc::{AllocError, Global};
@@ -22,17 +24,20 @@ pub struct BlockScanner {
     // The bytes that were fed last.
     bytes: Vec<u8>,
     progress: Progress,
-    has_ended: bool,
+    // Memory of these bytes by the tables, whatever bytes follow.
+    memory: ScanMemory,
 }
 
 impl Model for BlockScanner {
-    ghost use Rattle.lx_scan.specs.Streams.{IsProgress, Stream, stream_at};
+    ghost use Rattle.lx_scan.specs.Streams.{IsOpenMemory, IsProgress, Stream, stream_at};
 
     ghost Value = { Stream };
 
-    ghost view = { λ s. stream_at s.tables.value s.bytes.items s.progress s.has_ended };
+    ghost view = { λ s. stream_at s.tables.value s.bytes.items s.progress };
 
-    ghost invariant = { λ s. IsProgress s.tables.value s.bytes.items s.progress };
+    ghost invariant = { λ s.
+        IsProgress s.tables.value s.bytes.items s.progress
+        × IsOpenMemory s.tables.value s.bytes.items s.progress.has_ended s.memory };
 }
 
 // Returns the position of an item's first byte in its text, and its number of bytes.
@@ -45,12 +50,22 @@ fn span_of(item: Item) -> (usize, usize)
     }
 }
 
-// Removes the first bytes.
-fn remove_front(bytes: &mut Vec<u8>, count: usize)
-    requires { count ≤ length bytes.old.items }
-    ensures { bytes.new.items ≡ drop count bytes.old.items }
+// Removes the first bytes, if no more than these have to be moved for it. Returns the number of removed bytes. The memory is kept as long as they are, so
+// no more bytes are read again than were removed.
+fn remove_front(bytes: &mut Vec<u8>, memory: &mut ScanMemory, unused: usize) -> usize
+    requires { unused ≤ length bytes.old.items }
+    ensures few { result ≤ unused }
+    ensures bytes { bytes.new.items ≡ drop result bytes.old.items }
+    ensures memory { (table : Table) (has_ended : Bool)
+        → IsOpenMemory table bytes.old.items has_ended memory.old
+        → IsOpenMemory table bytes.new.items has_ended memory.new }
 {
-    bytes.drain(..count);
+    if bytes.len() - unused > unused {
+        return 0;
+    }
+    bytes.drain(..unused);
+    memory.clear();
+    unused
 }
 
 impl BlockScanner {
@@ -62,7 +77,7 @@ impl BlockScanner {
             tables: Snapshot::of(tables),
             bytes: Vec::new(alloc),
             progress: Progress::begin(tables),
-            has_ended: false,
+            memory: ScanMemory::new(alloc),
         }
     }
 
@@ -79,9 +94,7 @@ impl BlockScanner {
             return Err(AllocError);
         }
         self.bytes.extend_from_slice(block)?;
-        // no more bytes are moved than removed
-        let removed = if unused >= held { unused } else { 0 };
-        remove_front(&mut self.bytes, removed);
+        let removed = remove_front(&mut self.bytes, &mut self.memory, unused);
         self.progress.start = start - removed;
         Ok(())
     }
@@ -90,14 +103,14 @@ impl BlockScanner {
     pub fn end(&mut self)
         ensures { self.new ≡ record self.old { has_ended = true } }
     {
-        self.has_ended = true;
+        self.progress.has_ended = true;
     }
 
     /// Returns true if the text has ended.
     pub fn has_ended(&self) -> bool
         ensures { result ≡ self.now.has_ended }
     {
-        self.has_ended
+        self.progress.has_ended
     }
 
     /// Returns the bytes of an item. It has to be of the last match, or given since the last block was fed.
@@ -120,7 +133,8 @@ impl BlockScanner {
         ensures drained { IfNone result (IsDrained self.new) }
         ensures over { IfNone result (IsOver self.new) }
     {
-        self.progress.next_item(tables, &self.bytes, self.has_ended)
+        self.progress
+            .next_item(tables, &self.bytes, &mut self.memory)
     }
 
     /// Appends the next items to a list until it has `most`, or all that are decided by the bytes that were fed. The tables are those that the scanner was
@@ -140,7 +154,7 @@ impl BlockScanner {
         ensures err { OnErr result (self.new ≡ self.old) }
     {
         let mut progress = self.progress;
-        progress.next_items(tables, &self.bytes, self.has_ended, most, items)?;
+        progress.next_items(tables, &self.bytes, &mut self.memory, most, items)?;
         self.progress = progress;
         Ok(())
     }
@@ -155,7 +169,7 @@ impl BlockScanner {
         ensures err { OnErr result (self.new ≡ self.old) }
     {
         let mut progress = self.progress;
-        progress.all_items(tables, &self.bytes, self.has_ended, items)?;
+        progress.all_items(tables, &self.bytes, &mut self.memory, items)?;
         self.progress = progress;
         Ok(())
     }

@@ -20,7 +20,7 @@ pub(crate) fn has_token(tables: &Tables, rule: u16, read: usize) -> bool
 
 // Returns the last accepted rule with a token, and the number of bytes after which it was accepted, given one more state.
 #[inline(always)]
-pub(crate) fn latest(
+fn latest(
     tables: &Tables,
     state: State,
     read: usize,

@@ -1,32 +1,35 @@
 //! The progress of a scanner in a text that arrives in blocks.
 
-ghost use Rattle.std.specs.Prelude.{◌≡◌, ◌<◌, ◌≤◌, [], None, true, false, IfNone, IfSome, OnOk, length};
+ghost use Rattle.std.specs.Prelude.{◌≡◌, ◌<◌, ◌≤◌, [], None, true, false, IfNone, IfSome, OnOk, drop, length};
 ghost use Rattle.lx_scan.specs.Cursors.{listed};
-ghost use Rattle.lx_scan.specs.Streams.{Gives, GivesTo, IsDrained, IsKept, IsProgress, first_stream, stream_at};
+ghost use Rattle.lx_scan.specs.Streams.{Gives, GivesTo, IsDrained, IsKept, IsOpenMemory, IsProgress, IsSilentSince, IsStopped, IsWalked, first_stream, stream_at};
 
 use crate::cursor::Cursor;
 use crate::item::Item;
 use crate::list::ItemList;
+use crate::longest::{LONG, accept_at};
+use crate::memory::ScanMemory;
 use crate::place::{Match, Place};
-use crate::walk::{Walk, decide, has_step, walk_on};
+use crate::walk::{Walk, decide, has_step};
 use lx_tables::Tables;
 use lx_tables::well_formed::tables_are_well_formed;
 use std::alloc::AllocError;
 
 /// The progress in the bytes that are kept of a text: the number of them up to the end of the last match, the cursor after that match, and the walk
-/// over the match in progress.
-#[derive(Clone, Copy, Debug)]
+/// over the match in progress. `has_ended` is true if the text ends after these bytes.
+#[derive(Clone, Copy)]
 pub(crate) struct Progress {
     pub(crate) start: usize,
     pub(crate) cursor: Cursor,
     pub(crate) walk: Walk,
+    pub(crate) has_ended: bool,
 }
 
 impl Progress {
     /// Returns the progress before the first byte of a text.
     pub(crate) fn begin(tables: &Tables) -> Progress
-        ensures parts { IsProgress tables.now [] result }
-        ensures stream { stream_at tables.now [] result false ≡ first_stream tables.now }
+        ensures progress { IsProgress tables.now [] result }
+        ensures stream { stream_at tables.now [] result ≡ first_stream tables.now }
     {
         // a law: there is a condition
         tables_are_well_formed(tables);
@@ -44,30 +47,89 @@ impl Progress {
                 place,
             },
             walk: Walk::begin(tables, place),
+            has_ended: false,
+        }
+    }
+
+    // Walks on until nothing more can be accepted or all bytes are read. Returns the walk, and true if nothing more can be accepted.
+    #[inline(never)]
+    fn walk_on(&self, tables: &Tables, bytes: &[u8], memory: &ScanMemory) -> (Walk, bool)
+        requires progress { IsProgress tables.now bytes.now self.now }
+        requires memory { IsOpenMemory tables.now bytes.now self.now.has_ended memory.now }
+        ensures walked { IsWalked tables.now self.now.cursor.place (drop self.now.start bytes.now)
+            result.0.read result.0.state.0 result.0.found.last }
+        ensures silent { IsSilentSince tables.now.machine (drop self.now.start bytes.now)
+            result.0.read result.0.state.0 result.0.found.since result.0.found.state.0 }
+        ensures stopped { result.1 ≡ true
+            → IsStopped tables.now.machine (drop self.now.start bytes.now) self.now.has_ended
+            result.0.read result.0.state.0 }
+        ensures all { result.1 ≡ false
+            → result.0.read ≡ length (drop self.now.start bytes.now) }
+    {
+        let start = self.start;
+        let mut walk = self.walk;
+        while start + walk.read < bytes.len() {
+            if memory.has_failed(start + walk.read, walk.state) {
+                return (walk, true);
+            }
+            let Some(next) = tables.step(walk.state, bytes[start + walk.read]) else {
+                return (walk, true);
+            };
+            walk.read += 1;
+            accept_at(tables, next, walk.read, walk.read, &mut walk.found);
+            walk.state = next;
+        }
+        (walk, false)
+    }
+
+    // Remembers the states since the walk accepted last, if they are many. Nothing more can be accepted from them.
+    fn remember(&self, tables: &Tables, bytes: &[u8], memory: &mut ScanMemory)
+        requires progress { IsProgress tables.now bytes.now self.now }
+        requires stopped { IsStopped tables.now.machine (drop self.now.start bytes.now)
+            self.now.has_ended self.now.walk.read self.now.walk.state.0 }
+        requires memory { IsOpenMemory tables.now bytes.now self.now.has_ended memory.old }
+        ensures memory { IsOpenMemory tables.now bytes.now self.now.has_ended memory.new }
+    {
+        if self.walk.read - self.walk.found.since < LONG {
+            return;
+        }
+        memory.grow(bytes.len());
+        let from = self.start + self.walk.found.since;
+        let end = self.start + self.walk.read;
+        let mut state = self.walk.found.state;
+        for at in from..end {
+            memory.keep(at, state, from);
+            let Some(next) = tables.step(state, bytes[at]) else {
+                return;
+            };
+            state = next;
         }
     }
 
     // Finds the next match, if no further byte could change it. Returns false if it isn't decided, or if no bytes are held.
-    fn find_match(&mut self, tables: &Tables, bytes: &[u8], has_ended: bool) -> bool
-        requires parts { IsProgress tables.now bytes.now self.old }
-        requires none_due { (stream_at tables.now bytes.now self.old has_ended).due ≡ [] }
-        ensures parts { IsProgress tables.now bytes.now self.new }
-        ensures gives { Gives (stream_at tables.now bytes.now self.old has_ended)
-            (stream_at tables.now bytes.now self.new has_ended) [] }
+    fn find_match(&mut self, tables: &Tables, bytes: &[u8], memory: &mut ScanMemory) -> bool
+        requires progress { IsProgress tables.now bytes.now self.old }
+        requires none_due { (stream_at tables.now bytes.now self.old).due ≡ [] }
+        requires memory { IsOpenMemory tables.now bytes.now self.old.has_ended memory.old }
+        ensures progress { IsProgress tables.now bytes.now self.new }
+        ensures gives { Gives (stream_at tables.now bytes.now self.old)
+            (stream_at tables.now bytes.now self.new) [] }
         ensures further { result ≡ true → self.old.start < self.new.start }
-        ensures drained { result ≡ false
-            → IsDrained (stream_at tables.now bytes.now self.new has_ended) }
+        ensures drained { result ≡ false → IsDrained (stream_at tables.now bytes.now self.new) }
+        ensures memory { IsOpenMemory tables.now bytes.now self.old.has_ended memory.new }
     {
-        let held = &bytes[self.start..];
-        if held.is_empty() {
+        if self.start == bytes.len() {
             return false;
         }
+        let (walk, is_stopped) = self.walk_on(tables, bytes, memory);
+        self.walk = walk;
+        if !is_stopped && !self.has_ended && has_step(tables, self.walk.state) {
+            return false;
+        }
+        self.remember(tables, bytes, memory);
         let place = self.cursor.place;
-        let is_stuck = walk_on(tables, place, held, &mut self.walk);
-        if !is_stuck && !has_ended && has_step(tables, self.walk.state) {
-            return false;
-        }
-        let (found, next) = decide(tables, place, held, has_ended, self.walk.last);
+        let held = &bytes[self.start..];
+        let (found, next) = decide(tables, place, held, self.has_ended, self.walk.found.last);
         *self = Progress {
             start: self.start + found.len,
             cursor: Cursor {
@@ -77,25 +139,25 @@ impl Progress {
                 place: next,
             },
             walk: Walk::begin(tables, next),
+            has_ended: self.has_ended,
         };
         true
     }
 
     // Returns the next item of the last match, if one is left.
-    fn next_due(&mut self, tables: &Tables, bytes: &[u8], has_ended: bool) -> Option<Item>
-        requires parts { IsProgress tables.now bytes.now self.old }
-        ensures parts { IsProgress tables.now bytes.now self.new }
-        ensures gives { Gives (stream_at tables.now bytes.now self.old has_ended)
-            (stream_at tables.now bytes.now self.new has_ended) (listed result) }
+    fn next_due(&mut self, tables: &Tables, bytes: &[u8]) -> Option<Item>
+        requires progress { IsProgress tables.now bytes.now self.old }
+        ensures progress { IsProgress tables.now bytes.now self.new }
+        ensures gives { Gives (stream_at tables.now bytes.now self.old)
+            (stream_at tables.now bytes.now self.new) (listed result) }
         ensures kept { IfSome result
-            (λ item. IsKept (stream_at tables.now bytes.now self.new has_ended) item) }
+            (λ item. IsKept (stream_at tables.now bytes.now self.new) item) }
         ensures none { IfNone result
-            ((stream_at tables.now bytes.now self.new has_ended).due ≡ []) }
+            ((stream_at tables.now bytes.now self.new).due ≡ []) }
         ensures start { self.new.start ≡ self.old.start }
     {
         // for contracts only
         let _ = bytes;
-        let _ = has_ended;
         self.cursor.next_at_match(tables)
     }
 
@@ -104,23 +166,25 @@ impl Progress {
         &mut self,
         tables: &Tables,
         bytes: &[u8],
-        has_ended: bool,
+        memory: &mut ScanMemory,
     ) -> Option<Item>
-        requires parts { IsProgress tables.now bytes.now self.old }
-        ensures parts { IsProgress tables.now bytes.now self.new }
-        ensures gives { Gives (stream_at tables.now bytes.now self.old has_ended)
-            (stream_at tables.now bytes.now self.new has_ended) (listed result) }
+        requires progress { IsProgress tables.now bytes.now self.old }
+        requires memory { IsOpenMemory tables.now bytes.now self.old.has_ended memory.old }
+        ensures progress { IsProgress tables.now bytes.now self.new }
+        ensures memory { IsOpenMemory tables.now bytes.now self.old.has_ended memory.new }
+        ensures gives { Gives (stream_at tables.now bytes.now self.old)
+            (stream_at tables.now bytes.now self.new) (listed result) }
         ensures kept { IfSome result
-            (λ item. IsKept (stream_at tables.now bytes.now self.new has_ended) item) }
+            (λ item. IsKept (stream_at tables.now bytes.now self.new) item) }
         ensures drained { IfNone result
-            (IsDrained (stream_at tables.now bytes.now self.new has_ended)) }
+            (IsDrained (stream_at tables.now bytes.now self.new)) }
     {
-        let mut item = self.next_due(tables, bytes, has_ended);
+        let mut item = self.next_due(tables, bytes);
         while item.is_none() {
-            if !self.find_match(tables, bytes, has_ended) {
+            if !self.find_match(tables, bytes, memory) {
                 return None;
             }
-            item = self.next_due(tables, bytes, has_ended);
+            item = self.next_due(tables, bytes);
         }
         item
     }
@@ -130,21 +194,23 @@ impl Progress {
         &mut self,
         tables: &Tables,
         bytes: &[u8],
-        has_ended: bool,
+        memory: &mut ScanMemory,
         most: usize,
         items: &mut ItemList,
     ) -> Result<(), AllocError>
-        requires parts { IsProgress tables.now bytes.now self.old }
+        requires progress { IsProgress tables.now bytes.now self.old }
+        requires memory { IsOpenMemory tables.now bytes.now self.old.has_ended memory.old }
         requires few { length items.old ≤ most }
-        ensures parts { IsProgress tables.now bytes.now self.new }
-        ensures gives { OnOk result (GivesTo (stream_at tables.now bytes.now self.old has_ended)
-            (stream_at tables.now bytes.now self.new has_ended) items.old items.new) }
+        ensures progress { IsProgress tables.now bytes.now self.new }
+        ensures memory { IsOpenMemory tables.now bytes.now self.old.has_ended memory.new }
+        ensures gives { OnOk result (GivesTo (stream_at tables.now bytes.now self.old)
+            (stream_at tables.now bytes.now self.new) items.old items.new) }
         ensures most { OnOk result (length items.new ≤ most) }
         ensures drained { OnOk result (length items.new < most
-            → IsDrained (stream_at tables.now bytes.now self.new has_ended)) }
+            → IsDrained (stream_at tables.now bytes.now self.new)) }
     {
         'further: while items.len() < most {
-            let Some(item) = self.next_item(tables, bytes, has_ended) else {
+            let Some(item) = self.next_item(tables, bytes, memory) else {
                 return Ok(());
             };
             items.push(item)?;
@@ -157,17 +223,19 @@ impl Progress {
         &mut self,
         tables: &Tables,
         bytes: &[u8],
-        has_ended: bool,
+        memory: &mut ScanMemory,
         items: &mut ItemList,
     ) -> Result<(), AllocError>
-        requires parts { IsProgress tables.now bytes.now self.old }
-        ensures parts { IsProgress tables.now bytes.now self.new }
-        ensures gives { OnOk result (GivesTo (stream_at tables.now bytes.now self.old has_ended)
-            (stream_at tables.now bytes.now self.new has_ended) items.old items.new) }
+        requires progress { IsProgress tables.now bytes.now self.old }
+        requires memory { IsOpenMemory tables.now bytes.now self.old.has_ended memory.old }
+        ensures progress { IsProgress tables.now bytes.now self.new }
+        ensures memory { IsOpenMemory tables.now bytes.now self.old.has_ended memory.new }
+        ensures gives { OnOk result (GivesTo (stream_at tables.now bytes.now self.old)
+            (stream_at tables.now bytes.now self.new) items.old items.new) }
         ensures drained { OnOk result
-            (IsDrained (stream_at tables.now bytes.now self.new has_ended)) }
+            (IsDrained (stream_at tables.now bytes.now self.new)) }
     {
-        'further: while let Some(item) = self.next_item(tables, bytes, has_ended) {
+        'further: while let Some(item) = self.next_item(tables, bytes, memory) {
             items.push(item)?;
         }
         Ok(())

@@ -5,21 +5,22 @@ ghost use Rattle.std.specs.Option.{ForSome, option_map};
 ghost use Rattle.lx_automaton.specs.Automata.{state_count, target_of};
 ghost use Rattle.lx_tables.specs.Model.{IsTable};
 ghost use Rattle.lx_scan.specs.Answers.{token_len};
-ghost use Rattle.lx_scan.specs.Streams.{GoesOnBy, IsDecided, IsWalked};
+ghost use Rattle.lx_scan.specs.Streams.{GoesOnBy, IsDecided, IsSilentSince, IsWalked};
 
-use crate::choice::{latest, len_of_token};
+use crate::choice::len_of_token;
+use crate::longest::LongestMatch;
 use crate::place::{Match, Place};
 use crate::scanner::{match_of, place_after};
 use lx_tables::well_formed::tables_are_well_formed;
 use lx_tables::{State, Tables};
 
-/// A walk over the bytes of a match in progress: the number of bytes read, and the state after them. `last` is the last accepted rule with a token,
-/// and the number of bytes after which it was accepted.
-#[derive(Clone, Copy, Debug)]
+/// A walk over the bytes of a match in progress: the number of bytes read, and the state after them. `found` has the last accepted rule with a token, and
+/// the number of bytes after which none was accepted.
+#[derive(Clone, Copy)]
 pub(crate) struct Walk {
     pub(crate) read: usize,
     pub(crate) state: State,
-    pub(crate) last: Option<(u16, usize)>,
+    pub(crate) found: LongestMatch,
 }
 
 impl Walk {
@@ -27,41 +28,23 @@ impl Walk {
     pub(crate) fn begin(tables: &Tables, place: Place) -> Walk
         requires { place.condition < length tables.now.machine.starts }
         ensures walked { (held : List ℕ)
-            → IsWalked tables.now place held result.read result.state.0 result.last }
+            → IsWalked tables.now place held result.read result.state.0 result.found.last }
+        ensures silent { (held : List ℕ)
+            → IsSilentSince tables.now.machine held result.read result.state.0 result.found.since
+            result.found.state.0 }
         ensures table { IsTable tables.now }
     {
+        let state = tables.start(place.condition, place.at_line_begin);
         Walk {
             read: 0,
-            state: tables.start(place.condition, place.at_line_begin),
-            last: None,
+            state,
+            found: LongestMatch {
+                last: None,
+                since: 0,
+                state,
+            },
         }
     }
-}
-
-/// Walks on until a step is missing or all bytes are read. Returns true if a step is missing: then the match is decided.
-#[tactic(auto, using(crate::proofs::Walking::walk_steps))]
-#[inline(never)]
-pub(crate) fn walk_on(tables: &Tables, place: Place, held: &[u8], walk: &mut Walk) -> bool
-    requires { IsWalked tables.now place held.now walk.old.read walk.old.state.0 walk.old.last }
-    ensures walked { IsWalked tables.now place held.now walk.new.read walk.new.state.0
-        walk.new.last }
-    ensures decided { result ≡ true → IsDecided tables.now place held.now false walk.new.last }
-    ensures all { result ≡ false → walk.new.read ≡ length held.now }
-{
-    let mut at = *walk;
-    while at.read < held.len() {
-        let Some(next) = tables.step(at.state, held[at.read]) else {
-            *walk = at;
-            return true;
-        };
-        at = Walk {
-            read: at.read + 1,
-            state: next,
-            last: latest(tables, next, at.read + 1, at.last),
-        };
-    }
-    *walk = at;
-    false
 }
 
 /// Returns true if there is a step from a state on some byte.

@@ -7,5 +7,5 @@ pub returns-clause-kept : goal.returns-clause-kept
 returns-clause-kept c =
     let at = c.args.self.now in
     let new = c.next_at_match.new.self in
-    due_kept c.args.tables.now c.args.bytes.now at.start at.cursor new at.walk.read at.walk.state.0 at.walk.last c.args.has_ended c.next_at_match.result
-    (items_of_steps (steps_left c.args.tables.now new) at.cursor.line at.cursor.found.start at.cursor.found.len) c.requires.parts c.next_at_match.ensures.same c.next_at_match.ensures.items
+    due_kept c.args.tables.now c.args.bytes.now at.start at.cursor new at.walk.read at.walk.state.0 at.walk.found.last at.has_ended c.next_at_match.result
+    (items_of_steps (steps_left c.args.tables.now new) at.cursor.line at.cursor.found.start at.cursor.found.len) c.requires.progress.parts c.next_at_match.ensures.same c.next_at_match.ensures.items

@@ -1,11 +1,13 @@
-use Rattle.std.proofs.Common.{◌-◌, ◌≤◌, length}
-use Rattle.lx_scan.specs.Streams.{GivesTo, IsProgress, stream_at}
+use Rattle.std.proofs.Common.{◌≡◌, ◌-◌, ◌≤◌, length}
+use Rattle.lx_scan.specs.Streams.{GivesTo, IsOpenMemory, IsProgress, stream_at}
 use Rattle.lx_scan.proofs.progress.Progress.next_items.Given as goal
 
 abbrev pub invariant-further : goal.invariant-further
 invariant-further l = record {
-  parts : IsProgress l.tables l.bytes l.self;
-  gives : GivesTo (stream_at l.tables l.bytes l.fn.self l.has_ended) (stream_at l.tables l.bytes l.self l.has_ended) l.fn.items l.items;
+  progress : IsProgress l.tables l.bytes l.self;
+  memory : IsOpenMemory l.tables l.bytes l.fn.self.has_ended l.memory;
+  ended : l.self.has_ended ≡ l.fn.self.has_ended;
+  gives : GivesTo (stream_at l.tables l.bytes l.fn.self) (stream_at l.tables l.bytes l.self) l.fn.items l.items;
   few : length l.items ≤ l.most;
 }
 
