@@ -4,6 +4,8 @@
 #[cfg(test)]
 mod asserts;
 #[cfg(test)]
+mod block_scanning;
+#[cfg(test)]
 mod claims;
 #[cfg(test)]
 mod collector;

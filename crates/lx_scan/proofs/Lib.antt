@@ -13,4 +13,6 @@ pub mod Runs
 pub mod SomeChoice
 pub mod SomeItems
 pub mod Stepping
+pub mod Streaming
 pub mod Turns
+pub mod Walking

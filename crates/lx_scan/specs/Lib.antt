@@ -7,3 +7,4 @@ pub mod ItemParts
 pub mod Items
 pub mod Matching
 pub mod Steps
+pub mod Streams

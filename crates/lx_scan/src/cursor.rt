@@ -100,7 +100,7 @@ impl Cursor {
     }
 
     // Returns the next item of the match, if a step that is left has one.
-    fn next_at_match(&mut self, tables: &Tables) -> Option<Item>
+    pub(crate) fn next_at_match(&mut self, tables: &Tables) -> Option<Item>
         requires { ForSome self.old.found.rule (λ i. i < length tables.now.rules) }
         ensures same { self.new ≡ record self.old { done = self.new.done } }
         ensures items { items_of_steps (steps_left tables.now self.old) self.old.line self.old.found.start self.old.found.len

@@ -3,6 +3,8 @@
 
 pub mod answering;
 mod appending;
+pub mod block_scanner;
+pub mod blocks;
 mod choice;
 pub mod cursor;
 mod ends;
@@ -13,9 +15,13 @@ pub mod list;
 mod longest;
 pub mod memory;
 pub mod place;
+mod progress;
 pub mod ruling;
 pub mod scanner;
+mod walk;
 
+pub use crate::block_scanner::BlockScanner;
+pub use crate::blocks::{decided_items, scan_blocks};
 pub use crate::cursor::Cursor;
 pub use crate::flat::FlatItem;
 pub use crate::item::Item;

@@ -14,21 +14,27 @@ use crate::place::Place;
 use lx_tables::{State, Tables};
 
 // Least number of bytes of a failed lookahead that is remembered. Shorter ones are usual, and cost little.
-const LONG: usize = 64;
+pub(crate) const LONG: usize = 64;
 
 /// The result of a run: the last accepted rule with a token, and the number of bytes after which it was accepted. Also the position after which none
 /// was accepted, with the state there.
 #[derive(Clone, Copy)]
-struct LongestMatch {
-    last: Option<(u16, usize)>,
-    since: usize,
-    state: State,
+pub(crate) struct LongestMatch {
+    pub(crate) last: Option<(u16, usize)>,
+    pub(crate) since: usize,
+    pub(crate) state: State,
 }
 
 // Notes the rule that is accepted in a state before byte `at`, after `read` bytes. If none is accepted, it writes nothing: a returned value would be
 // copied at each byte.
 #[inline(always)]
-fn accept_at(tables: &Tables, state: State, at: usize, read: usize, found: &mut LongestMatch)
+pub(crate) fn accept_at(
+    tables: &Tables,
+    state: State,
+    at: usize,
+    read: usize,
+    found: &mut LongestMatch,
+)
     requires state { state.0 < state_count tables.now.machine }
     requires some { 0 < read }
     ensures last { found.new.last

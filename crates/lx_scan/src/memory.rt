@@ -150,6 +150,25 @@ impl ScanMemory {
         }
     }
 
+    /// Forgets all, and keeps its memory.
+    pub(crate) fn clear(&mut self)
+        ensures { (table : Table) (text : List ℕ) → IsMemoryOf table text self.new }
+    {
+        self.marks.clear();
+        self.others.clear();
+    }
+
+    /// Makes room for the numbers of a text that has grown, unless an allocation fails.
+    pub(crate) fn grow(&mut self, len: usize)
+        ensures { (table : Table) (text : List ℕ) → IsMemoryOf table text self.old
+            → IsMemoryOf table text self.new }
+    {
+        let wanted = (len / SPACING + 1) * STATES;
+        if self.marks.len() < wanted {
+            let _ = self.marks.resize(wanted, 0);
+        }
+    }
+
     // Makes room for the further states, unless an allocation fails.
     fn make_room_for_further(&mut self)
         ensures { (table : Table) (text : List ℕ) → IsMemoryOf table text self.old

@@ -51,7 +51,7 @@ fn newlines_in(bytes: &[u8]) -> u64
 }
 
 // Returns the match of a choice at a position. If no rule is chosen, a single byte is echoed.
-fn match_of(start: usize, choice: Option<(u16, usize)>) -> Match
+pub(crate) fn match_of(start: usize, choice: Option<(u16, usize)>) -> Match
     ensures start { result.start ≡ start }
     ensures choice { choice_in result ≡ choice }
     ensures alone { result.rule ≡ None → result.len ≡ 1 }
@@ -88,7 +88,7 @@ fn match_by(tables: &Tables, text: &[u8], place: Place, memory: &mut ScanMemory)
 }
 
 // Returns the place after a match. It is at line begin exactly if the match's last byte is a newline.
-fn place_after(tables: &Tables, rest: &[u8], place: Place, found: Match) -> Place
+pub(crate) fn place_after(tables: &Tables, rest: &[u8], place: Place, found: Match) -> Place
     requires some { 0 < found.len }
     requires within { found.len ≤ length rest.now }
     requires rule { ForSome found.rule (λ i. i < length tables.now.rules) }
