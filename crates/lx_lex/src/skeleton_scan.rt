@@ -494,11 +494,11 @@ static int yy_refill(@p)
         yy_room = YY_READ_BUF_SIZE;
 
     yy_dest = yy_buffer->yy_ch_buf + yy_kept;
-    YY_INPUT(yy_dest, yy_count, yy_room);
-    if (yy_count <= 0) {
-        yy_count = 0;
+    YY_INPUT(yy_dest, @gyy_n_chars, yy_room); /* A program's YY_INPUT may read the number of bytes before it sets it. */
+    if (@gyy_n_chars > 0)
+        yy_count = @gyy_n_chars;
+    else
         yy_buffer->yy_buffer_status = YY_BUFFER_EOF_PENDING;
-    }
     @gyy_n_chars = yy_buffer->yy_n_chars = yy_kept + yy_count;
     while (@gyy_n_chars > yy_buffer->yy_buf_size) /* YY_INPUT gave more than it was asked for. */
         yy_grow_buffer("out of dynamic memory in yy_get_next_buffer()"@A);
