@@ -110,6 +110,9 @@ const IMPLIED: &[(&[u8], &[u8], bool)] = &[
     (b"main", b"yywrap", false),
 ];
 
+/// Words that `lex-compat` switches on, whatever else is said.
+const ON_FOR_LEX: &[&[u8]] = &[b"array", b"yylineno"];
+
 /// Words that change the reading of patterns.
 const FOR_PATTERNS: &[&[u8]] = &[b"case-insensitive", b"lex-compat", b"posix-compat"];
 
@@ -171,14 +174,20 @@ impl FlexOptions {
         }
     }
 
-    /// Returns true if the word is on. A word that flex doesn't have is off.
-    pub fn is_on(&self, word: &[u8]) -> bool {
+    /// Returns true if the word was switched on, or is on at first.
+    fn is_switched_on(&self, word: &[u8]) -> bool {
         for switch in self.switches.as_slice() {
             if switch.word == word {
                 return switch.on;
             }
         }
         word_in(ON_AT_FIRST, word).is_some()
+    }
+
+    /// Returns true if the word is on. A word that flex doesn't have is off. With `lex-compat` some words are always on, as in flex.
+    pub fn is_on(&self, word: &[u8]) -> bool {
+        self.is_switched_on(word)
+            || word_in(ON_FOR_LEX, word).is_some() && self.is_switched_on(b"lex-compat")
     }
 
     /// Returns the place where the word was switched last.

@@ -267,6 +267,9 @@ typedef unsigned char YY_CHAR;
 %if debug
 #define FLEX_DEBUG
 %end
+%if lex-compat
+#define YY_FLEX_LEX_COMPAT
+%end
 %if !yywrap
 #define YY_SKIP_YYWRAP
 %if reentrant
