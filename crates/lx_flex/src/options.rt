@@ -94,6 +94,7 @@ const SPELLINGS: &[(&[u8], &[u8], bool)] = &[
 /// Words with a value.
 const VALUED: &[&[u8]] = &[
     b"extra-type",
+    b"form",
     b"header",
     b"header-file",
     b"outfile",
@@ -101,6 +102,9 @@ const VALUED: &[&[u8]] = &[
     b"tables-file",
     b"yyclass",
 ];
+
+/// Values of `form`.
+const FORMS: &[&[u8]] = &[b"rows", b"states"];
 
 /// Words that are part of others when they are switched on.
 const IMPLIED: &[(&[u8], &[u8], bool)] = &[
@@ -239,7 +243,7 @@ impl FlexOptions {
         Ok(true)
     }
 
-    /// Sets the value of a word. Returns false if flex has no such word with a value.
+    /// Sets the value of a word. Returns false if there is no such word with a value, or no such form.
     pub fn set(
         &mut self,
         alloc: Global,
@@ -250,6 +254,9 @@ impl FlexOptions {
         let Some(word) = word_in(VALUED, name) else {
             return Ok(false);
         };
+        if word == b"form".as_slice() && word_in(FORMS, value).is_none() {
+            return Ok(false);
+        }
         let word: &'static [u8] = if word == b"header".as_slice() {
             b"header-file"
         } else {
@@ -358,8 +365,8 @@ fn read_word<'a>(
         let Some((value, after)) = value_at(rest) else {
             return Ok(None);
         };
-        let _known = options.set(alloc, small.as_slice(), value, place)?;
-        return Ok(Some(after));
+        let known = options.set(alloc, small.as_slice(), value, place)?;
+        return Ok(if known { Some(after) } else { None });
     }
     let (word, on) = sense_of(small.as_slice());
     Ok(if options.switch(word, on, place)? {
