@@ -38,6 +38,7 @@ bench: ## measures listings beside other scanners, threads, and the making of ta
 	bench/peers
 	bench/threads
 	bench/gen
+	bench/lexers
 
 fmt: ## lays out the sources of every crate
 	for crate in crates/*/; do (cd "$$crate" && rt fmt) || exit 1; done

@@ -15,7 +15,11 @@ MAIN = "%%\nint main(void) { while (yylex() != 0) { } return 0; }\n"
 WORDS = "%option noyywrap\n%%\n[a-z]+ printf(\"<%s>\", yytext);\n[0-9]+ return 1;\n" + MAIN
 # Options, and words that a scanner with them is tried with.
 VARIANTS = [("", []), ("yylineno stack", []), ("array yylineno", []), ("reject", []), ("reject array", []), ("debug", []), ("case-insensitive", []), ("prefix=\"foo\"", []),
-            ("nounput noinput nodefault nowarn", []), ("read", []), ("always-interactive", []), ("never-interactive", []), ("", ["-L"]), ("", ["-Cf"]), ("", ["-D", "A=1"])]
+            ("nounput noinput nodefault nowarn", []), ("read", []), ("always-interactive", []), ("never-interactive", []), ("", ["-L"]), ("", ["-Cf"]), ("", ["-D", "A=1"]),
+            ("yymore", []), ("yymore array yylineno", []), ("debug yylineno", []), ("lex-compat", [])]
+FORMS = ["rows", "states"]
+# A line of code for states, and one of rows.
+LINES_OF_FORMS = {"rows": "yy_rows[] = {", "states": "yy_s0:"}
 # Files, their texts and what their scanners print.
 SCANNERS = [
     ("a word", WORDS, b"ab 12 c\n", b"<ab>  <c>\n"),
@@ -42,6 +46,13 @@ SCANNERS = [
     ("an interval up to 600", "%option noyywrap\n%%\n(ab){0,600}c printf(\"[%d]\", (int)yyleng);\n" + MAIN, b"c" + b"ab" * 600 + b"c" + b"ab" * 601 + b"c", b"[1][1201]ab[1201]"),
     ("an interval of a definition", "%option noyywrap\nD [0-9]{256}\n%%\n{D}{2} printf(\"[%d]\", (int)yyleng);\n" + MAIN, b"7" * 513, b"[512]7"),
     ("a large interval before trailing context", "%option noyywrap\n%%\nx{512}/y* printf(\"[%d]\", (int)yyleng);\n" + MAIN, b"x" * 512 + b"yy", b"[512]yy"),
+    ("NULs in and between tokens", "%option noyywrap\n%%\na[\\0-b]*c printf(\"[%d]\", (int)yyleng);\n\\0 printf(\"0\");\n" + MAIN, b"\0a\0\0bc\0a\0\0d\0", b"0[5]0a00d0"),
+    ("a place to go back to", "%option noyywrap\n%%\nab(cde)* printf(\"[%s]\", yytext);\nc printf(\".\");\n" + MAIN, b"abcdecdabcd", b"[abcde].d[ab].d"),
+    ("a place before a NUL to go back to", "%option noyywrap\n%%\na printf(\"[a]\");\na\\0b printf(\"[a0b]\");\n\\0 printf(\"0\");\n" + MAIN, b"a\0ba\0c", b"[a0b][a]0c"),
+    ("rules without an action", "%option noyywrap yylineno\n%%\n[ \\n]+ ;\n#.* |\n\\/ { /* nothing */ }\n^a printf(\"^%d\", yylineno);\na printf(\"a%d\", yylineno);\n" + MAIN,
+     b"a a\n a # x\na/a", b"^1a1a2^3a3"),
+    ("rules without an action, and a hook", "%{\n#define YY_USER_ACTION printf(\"%d\", (int)yyleng);\n%}\n%option noyywrap\n%%\n[ \\n]+ ;\na printf(\"a\");\n" + MAIN, b"a  a\n", b"1a21a1"),
+    ("code between rules", "%option noyywrap\n%%\na |\n  /* a comment */\nb printf(\"b\");\n<<EOF>> { printf(\"e\"); yyterminate(); }\n" + MAIN, b"ab", b"bbe"),
     ("a large interval in trailing context", "%option noyywrap nowarn\n%%\nx+/x{300} printf(\"[%d]\", (int)yyleng);\n" + MAIN, b"x" * 305, b"[5]" + b"x" * 300),
 ]
 # Rules whose actions use REJECT, their texts and what their scanners print; worked out by hand.
@@ -103,10 +114,56 @@ class FlexScanners(Case):
         compiler = support.tool("gcc", "clang", "cc")
         for name, text, given, wanted in SCANNERS:
             self.write(text)
-            ended = self.flex("x.l")
-            self.expect(f"{name}: lx flex", (ended.returncode, ended.stderr), (0, ""))
-            program = self.compiled(compiler, "-std=c99")
-            self.expect(name, support.run(program, input=given).stdout, wanted)
+            for form in FORMS:
+                ended = self.flex(f"--form={form}", "x.l")
+                self.expect(f"{name}, {form}: lx flex", (ended.returncode, ended.stderr), (0, ""))
+                program = self.compiled(compiler, "-std=c99")
+                self.expect(f"{name}, {form}", support.run(program, input=given).stdout, wanted)
+
+    def test_forms(self):
+        many = "%option noyywrap\n%%\n" + "".join(f"x{{{number}}}y ;\n" for number in (999, 1001))
+        for name, words, text, wanted in [
+                ("no form", [], WORDS, "states"), ("--form rows", ["--form", "rows"], WORDS, "rows"), ("%option form", [], "%option form=\"rows\"\n" + WORDS, "rows"),
+                ("small tables", ["-Cem"], WORDS, "rows"), ("large tables", ["-Cfe"], WORDS, "states"), ("a form before tables", ["-Cem", "--form=states"], WORDS, "states"),
+                ("many states", [], many, "rows"), ("code for many states", ["--form=states"], many, "states"),
+                ("REJECT", ["--form=states"], "%%\na REJECT;\n", "rows")]:
+            self.write(text)
+            printed = self.flex("-t", *words, "x.l").stdout
+            self.expect(name, [form for form in FORMS if LINES_OF_FORMS[form] in printed], [wanted])
+        self.write(WORDS)
+        self.expect("an unknown form", self.flex("--form=tables", "x.l").returncode, 2)
+        self.write("%option form=\"tables\"\n%%\n")
+        self.expect("an unknown form in the file", self.flex("x.l").returncode, 1)
+
+    def test_one_token(self):
+        """A token of 16 MB is scanned once, however often more of it is read."""
+        compiler = support.tool("gcc", "clang", "cc")
+        given = b"<" + b"x\n" * 8_000_000 + b">"
+        for form in FORMS:
+            self.write("%option noyywrap\n%%\n\"<\"[^>]*> printf(\"[%d]\", (int)yyleng);\n" + MAIN)
+            self.expect(f"{form}: lx flex", self.flex(f"--form={form}", "x.l").returncode, 0)
+            begun = time.monotonic()
+            self.expect(form, support.run(self.compiled(compiler, "-std=c99"), input=given).stdout, b"[16000002]")
+            self.check(f"{form}: soon", time.monotonic() - begun < 20)
+
+    def test_programs_macros(self):
+        """Macros of the program may read what flex has at their place."""
+        compiler = support.tool("gcc", "clang", "cc")
+        reading = "%{\n#define YY_INPUT(buffer, result, most) { if (result < 0) exit(9); result = (int)fread(buffer, 1, 3, stdin); }\n%}\n%option noyywrap\n%%\n[a-z]+ printf(\"<%s>\", yytext);\n"
+        ending = ("%{\n#define exit(status) exit(yyextra + status)\n%}\n%option noyywrap reentrant extra-type=\"int\"\n%%\na unput('a'), yy_fatal_error(\"end\", yyscanner);\n%%\n"
+                  "int main(void) { yyscan_t it; yylex_init_extra(3, &it); return yylex(it); }\n")
+        for name, text, given, wanted in [("the result of YY_INPUT", reading + MAIN, b"abcdefg h", (0, b"<abcdefg> <h>")), ("yyextra in exit", ending, b"a", (5, b""))]:
+            self.write(text)
+            for form in FORMS:
+                self.expect(f"{name}, {form}: lx flex", self.flex(f"--form={form}", "x.l").returncode, 0)
+                ended = support.run(self.compiled(compiler, "-std=c99"), input=given)
+                self.expect(f"{name}, {form}", (ended.returncode, ended.stdout), wanted)
+
+    def test_lex_compat(self):
+        for words, text in [(["-l"], WORDS), ([], "%option lex-compat\n%option pointer noyylineno\n" + WORDS)]:
+            self.write(text)
+            printed = self.flex("-t", *words, "x.l").stdout
+            self.check(f"{words}: yytext is an array, and lines are counted", "char yytext[YYLMAX];" in printed and "++yylineno" in printed and "#define YY_FLEX_LEX_COMPAT" in printed)
 
     def test_reject(self):
         for name, rules, given, wanted in REJECTING:
@@ -132,18 +189,22 @@ class FlexScanners(Case):
 
     def test_variants(self):
         for options, words in VARIANTS:
-            name = "lex.foo.c" if "prefix" in options else "lex.yy.c"
-            text = WORDS.replace("yylex()", "foolex()") if "prefix" in options else WORDS
-            self.write(text.replace("noyywrap", f"noyywrap {options}"))
-            ended = self.flex(*words, "x.l")
-            self.expect(f"{options} {words}: lx flex", (ended.returncode, ended.stderr), (0, ""))
-            for compiler, standard in COMPILERS:
-                if not shutil.which(compiler):
-                    self.leave_out(f"{options} {words}: {compiler}", f"there is no {compiler}")
-                    continue
-                program = self.compiled(compiler, standard, name)
-                if "nodefault" not in options and options != "debug":
-                    self.expect(f"{options} {words}: {compiler}", support.run(program, input=b"ab\n1\n").stdout, b"<ab>\n\n")
+            for form in FORMS:
+                self.try_variant(options, [*words, f"--form={form}"])
+
+    def try_variant(self, options, words):
+        name = "lex.foo.c" if "prefix" in options else "lex.yy.c"
+        text = WORDS.replace("yylex()", "foolex()") if "prefix" in options else WORDS
+        self.write(text.replace("noyywrap", f"noyywrap {options}"))
+        ended = self.flex(*words, "x.l")
+        self.expect(f"{options} {words}: lx flex", (ended.returncode, ended.stderr), (0, ""))
+        for compiler, standard in COMPILERS:
+            if not shutil.which(compiler):
+                self.leave_out(f"{options} {words}: {compiler}", f"there is no {compiler}")
+                continue
+            program = self.compiled(compiler, standard, name)
+            if "nodefault" not in options and "debug" not in options:
+                self.expect(f"{options} {words}: {compiler}", support.run(program, input=b"ab\n1\n").stdout, b"<ab>\n\n")
 
     def test_outputs(self):
         self.write(WORDS)

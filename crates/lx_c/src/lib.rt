@@ -16,7 +16,7 @@ pub mod printing;
 pub mod pushing;
 mod row_numbers;
 mod rows;
-mod stepping;
+pub mod stepping;
 mod templates;
 mod words;
 

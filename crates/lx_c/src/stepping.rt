@@ -7,7 +7,7 @@ ghost use Rattle.std.specs.Prelude.{IfSome, ◌<◌, ◌≡◌};
 use lx_tables::{State, Tables};
 
 /// Returns the target of a state's step on a byte.
-pub(crate) fn target_of(tables: &Tables, state: u32, byte: u8) -> Option<u32>
+pub fn target_of(tables: &Tables, state: u32, byte: u8) -> Option<u32>
     requires { state < state_count tables.now.machine }
     ensures { result ≡ target_of tables.now.machine state byte }
 {
@@ -18,7 +18,7 @@ pub(crate) fn target_of(tables: &Tables, state: u32, byte: u8) -> Option<u32>
 }
 
 /// Returns the target of a state's step on a class.
-pub(crate) fn class_target(tables: &Tables, state: u32, class: u8) -> Option<u32>
+pub fn class_target(tables: &Tables, state: u32, class: u8) -> Option<u32>
     requires state { state < state_count tables.now.machine }
     requires class { class < tables.now.machine.width }
     ensures target { result ≡ class_target tables.now.machine state class }
@@ -31,7 +31,7 @@ pub(crate) fn class_target(tables: &Tables, state: u32, class: u8) -> Option<u32
 }
 
 /// Returns true if there is a step, and it leads to the wanted state, if one is.
-pub(crate) fn leads(wanted: Option<u32>, target: Option<u32>) -> bool
+pub fn leads(wanted: Option<u32>, target: Option<u32>) -> bool
     ensures { result ≡ direct.leads wanted target }
 {
     match (wanted, target) {
@@ -42,7 +42,7 @@ pub(crate) fn leads(wanted: Option<u32>, target: Option<u32>) -> bool
 }
 
 /// Returns the number of classes on which a state has such a step.
-pub(crate) fn step_count(tables: &Tables, state: u32, wanted: Option<u32>) -> u32
+pub fn step_count(tables: &Tables, state: u32, wanted: Option<u32>) -> u32
     requires { state < state_count tables.now.machine }
     ensures { result ≡ direct.step_count tables.now.machine state wanted }
 {

@@ -276,6 +276,7 @@ fn take_name<'a>(
     }
     if name == b"outfile".as_slice()
         || name == b"prefix".as_slice()
+        || name == b"form".as_slice()
         || name == b"define".as_slice()
     {
         let Some(value) = words.next() else {

@@ -94,6 +94,7 @@ const SPELLINGS: &[(&[u8], &[u8], bool)] = &[
 /// Words with a value.
 const VALUED: &[&[u8]] = &[
     b"extra-type",
+    b"form",
     b"header",
     b"header-file",
     b"outfile",
@@ -102,6 +103,9 @@ const VALUED: &[&[u8]] = &[
     b"yyclass",
 ];
 
+/// Values of `form`.
+const FORMS: &[&[u8]] = &[b"rows", b"states"];
+
 /// Words that are part of others when they are switched on.
 const IMPLIED: &[(&[u8], &[u8], bool)] = &[
     (b"bison-locations", b"bison-bridge", true),
@@ -109,6 +113,9 @@ const IMPLIED: &[(&[u8], &[u8], bool)] = &[
     (b"full", b"read", true),
     (b"main", b"yywrap", false),
 ];
+
+/// Words that `lex-compat` switches on, whatever else is said.
+const ON_FOR_LEX: &[&[u8]] = &[b"array", b"yylineno"];
 
 /// Words that change the reading of patterns.
 const FOR_PATTERNS: &[&[u8]] = &[b"case-insensitive", b"lex-compat", b"posix-compat"];
@@ -171,14 +178,20 @@ impl FlexOptions {
         }
     }
 
-    /// Returns true if the word is on. A word that flex doesn't have is off.
-    pub fn is_on(&self, word: &[u8]) -> bool {
+    /// Returns true if the word was switched on, or is on at first.
+    fn is_switched_on(&self, word: &[u8]) -> bool {
         for switch in self.switches.as_slice() {
             if switch.word == word {
                 return switch.on;
             }
         }
         word_in(ON_AT_FIRST, word).is_some()
+    }
+
+    /// Returns true if the word is on. A word that flex doesn't have is off. With `lex-compat` some words are always on, as in flex.
+    pub fn is_on(&self, word: &[u8]) -> bool {
+        self.is_switched_on(word)
+            || word_in(ON_FOR_LEX, word).is_some() && self.is_switched_on(b"lex-compat")
     }
 
     /// Returns the place where the word was switched last.
@@ -230,7 +243,7 @@ impl FlexOptions {
         Ok(true)
     }
 
-    /// Sets the value of a word. Returns false if flex has no such word with a value.
+    /// Sets the value of a word. Returns false if there is no such word with a value, or no such form.
     pub fn set(
         &mut self,
         alloc: Global,
@@ -241,6 +254,9 @@ impl FlexOptions {
         let Some(word) = word_in(VALUED, name) else {
             return Ok(false);
         };
+        if word == b"form".as_slice() && word_in(FORMS, value).is_none() {
+            return Ok(false);
+        }
         let word: &'static [u8] = if word == b"header".as_slice() {
             b"header-file"
         } else {
@@ -349,8 +365,8 @@ fn read_word<'a>(
         let Some((value, after)) = value_at(rest) else {
             return Ok(None);
         };
-        let _known = options.set(alloc, small.as_slice(), value, place)?;
-        return Ok(Some(after));
+        let known = options.set(alloc, small.as_slice(), value, place)?;
+        return Ok(if known { Some(after) } else { None });
     }
     let (word, on) = sense_of(small.as_slice());
     Ok(if options.switch(word, on, place)? {

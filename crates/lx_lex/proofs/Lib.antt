@@ -3,4 +3,5 @@ mod CutParts
 mod Parts
 mod Plain
 mod Reversal
+mod StateSteps
 mod Walking

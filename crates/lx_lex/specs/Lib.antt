@@ -1,7 +1,10 @@
 pub mod Arrays
 pub mod Checked
 pub mod Cuts
+pub mod Forms
 pub mod Lists
+pub mod StateCode
+pub mod StateSteps
 pub mod Translation
 pub mod Walking
 pub mod views

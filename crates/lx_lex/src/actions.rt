@@ -19,6 +19,8 @@ pub(crate) struct CodePlaces<'a> {
     pub(crate) printed: &'a [u8],
     /// True if `#line` directives are printed.
     pub(crate) with_lines: bool,
+    /// True if the actions of rules have labels in the place of cases.
+    pub(crate) as_labels: bool,
 }
 
 impl<'a> CodePlaces<'a> {
@@ -211,7 +213,11 @@ pub(crate) fn push_actions(
         before = before.saturating_add(1);
         if rule.pattern.is_some() {
             number = number.saturating_add(1);
-            output.push(b"case ")?;
+            output.push(if places.as_labels {
+                b"yy_do_"
+            } else {
+                b"case "
+            })?;
             push_number_then(&mut output.text, number, b":\n")?;
         } else {
             push_end_cases(output, &mut cases, conditions, rule)?;

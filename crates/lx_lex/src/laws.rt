@@ -7,6 +7,7 @@ ghost use Rattle.lx_ere.specs.Matching.{Matches, no_names};
 ghost use Rattle.lx_ere.specs.Regex.{Regex};
 ghost use Rattle.lx_lex.specs.Cuts.{IsCutSpec, reversed};
 ghost use Rattle.lx_lex.specs.Lists.{FindAllRules, HasSmallPlaces};
+ghost use Rattle.lx_lex.specs.StateSteps.{StepsAlike};
 ghost use Rattle.lx_lex.specs.Translation.{FileRule};
 ghost use Rattle.lx_lex.specs.Walking.{FindParts, FindRules};
 ghost use Rattle.lx_rules.specs.Limits.{max_rules};
@@ -38,4 +39,10 @@ pub fn arrays_find_parts()
 pub fn reversal_matches()
     ensures { (tree : Regex) (text : List ℕ) → Matches no_names (reversed tree) (reverse text)
         ↔ Matches no_names tree text }
+{}
+
+/// States a law: the code of each state steps on each byte but 0 as the automaton does, by its loop, its tests and its set in their order; and on byte 0,
+/// which ends what was read, it doesn't step.
+pub fn code_steps_alike()
+    ensures { (m : Machine) → IsMachine m → StepsAlike m }
 {}

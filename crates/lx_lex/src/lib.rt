@@ -3,17 +3,22 @@
 
 mod actions;
 mod arrays;
+pub mod forms;
 pub mod laws;
 mod list_arrays;
 pub mod outline;
 pub mod printing;
+mod rule_code;
 mod skeleton_calls;
 mod skeleton_head;
 mod skeleton_scan;
+mod skeleton_states;
 pub mod source_names;
+mod state_code;
 mod template;
 pub mod translating;
 
+pub use crate::forms::{ScannerForm, asked_form, form_of};
 pub use crate::outline::{FileOutline, MatchCut, split};
 pub use crate::printing::{PrintOptions, ScannerTables, header_of, scanner_of};
 pub use crate::source_names::{SourceName, place_in};

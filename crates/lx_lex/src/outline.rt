@@ -123,6 +123,31 @@ pub fn outline_of(reading: &PatternReading) -> PatternOutline
     }
 }
 
+/// Returns true if C text has blanks, semicolons, braces and comments alone.
+fn is_idle(code: &[u8]) -> bool {
+    let mut in_comment = false;
+    let mut before = b' ';
+    for byte in code {
+        let mut after = *byte;
+        if in_comment {
+            if before == b'*' && *byte == b'/' {
+                in_comment = false;
+                after = b' ';
+            }
+        } else if before == b'/' {
+            if *byte != b'*' {
+                return false;
+            }
+            in_comment = true;
+            after = b' ';
+        } else if !b" \t\n\r;{}/".contains(byte) {
+            return false;
+        }
+        before = after;
+    }
+    before != b'/' && !in_comment
+}
+
 fn copy_of(conditions: &Option<Vec<u16>>) -> Result<Option<Vec<u16>>, AllocError> {
     match conditions {
         Some(list) => Ok(Some(list.clone()?)),
@@ -181,6 +206,23 @@ impl FileOutline<'_> {
             RuleAction::Code(code) => has_word(code.of(self.text), word),
             RuleAction::Bar => false,
         }
+    }
+
+    /// Returns true if the rule at this place, counted from 0, has an action that does nothing.
+    pub(crate) fn is_idle(&self, place: usize) -> bool {
+        for number in place..self.rules.len() {
+            let rule = &self.rules[number];
+            match rule.action {
+                RuleAction::Bar => {}
+                RuleAction::Code(code) => {
+                    return rule.pattern.is_some() && is_idle(code.of(self.text));
+                }
+            }
+            if rule.pattern.is_none() {
+                return false;
+            }
+        }
+        false
     }
 
     /// Returns true if the C of an action, or that before the first rule, has this word. Comments and texts in quotes don't count.

@@ -3,11 +3,14 @@
 ghost use Rattle.std.specs.Prelude.{codes, length, IfOk, IfSome, ◌++◌, ◌≡◌};
 ghost use Rattle.lx_lex.specs.Arrays.{HasArrays, HasCutArrays, arrays_text, cut_arrays_text};
 ghost use Rattle.lx_lex.specs.Lists.{HasListArrays, HasSmallPlaces, list_arrays_text};
+ghost use Rattle.lx_lex.specs.StateCode.{HasForm, automaton_arrays, walk_text};
 
 use crate::actions::{CodePlaces, push_actions};
-use crate::arrays::{arrays_of, cut_arrays_of, lines_in, start_row};
+use crate::arrays::{arrays_of, cut_arrays_of, lines_in};
+use crate::forms::ScannerForm;
 use crate::list_arrays::list_arrays_of;
-use crate::outline::{FileOutline, MatchCut};
+use crate::outline::FileOutline;
+use crate::rule_code::{push_cuts, push_matches};
 use crate::skeleton_calls::{
     ACCESS, ACCESS_LINES, CREATE, DELETE, DESTROY, FATAL, MAIN, MEMORY, POSITION, SCAN, SCAN_BYTES,
     SCAN_STRING, STATES, SWITCH,
@@ -20,7 +23,9 @@ use crate::skeleton_scan::{
     ACCEPT, CUT, END_OF_FILE, GROW, INPUT, READ, REFILL, REJECT, STEPS, TAKE, UNPUT, WALK, YYLEX,
     YYLEX_END,
 };
+use crate::skeleton_states::{STATE_BEGIN, STATE_MACROS, STATE_STOP};
 use crate::source_names::SourceName;
+use crate::state_code::{state_arrays_of, states_of};
 use crate::template::{Environment, Output, push_template};
 use lx_automaton::ListAutomaton;
 use lx_c::pushing::push_number_then;
@@ -36,6 +41,7 @@ pub struct PrintOptions<'a> {
     pub printed: &'a [u8],
     /// Macros of `-D`, each a name or `name=value`.
     pub macros: &'a [&'a str],
+    pub form: ScannerForm,
 }
 
 /// The tables that a scanner is printed of.
@@ -54,6 +60,7 @@ fn environment_of<'a>(
     alloc: Global,
     outline: &'a FileOutline<'_>,
     in_header: bool,
+    form: ScannerForm,
 ) -> Result<Environment<'a>, AllocError> {
     let options = &outline.declared.options;
     let prefix = options.value_of(b"prefix").unwrap_or(b"yy");
@@ -68,6 +75,7 @@ fn environment_of<'a>(
     let joins = outline.actions_have(b"yymore") && options.place_of(b"yymore").is_none();
     environment.add(b"yymore", joins)?;
     environment.add(b"reject", outline.has_reject())?;
+    environment.add(b"states", form == ScannerForm::States)?;
     Ok(environment)
 }
 
@@ -143,19 +151,31 @@ fn push_conditions(output: &mut Output, outline: &FileOutline) -> Result<(), All
     Ok(())
 }
 
-/// Appends the numbers that the arrays are read by.
-fn push_table_macros(output: &mut Output, tables: &Tables) -> Result<(), AllocError> {
+/// Appends the numbers that the arrays of rows are read by.
+fn push_row_macros(output: &mut Output, tables: &Tables) -> Result<(), AllocError> {
     let classes = u64::from(tables.classes());
+    push_define(output, b"YY_NUL_CLASS", u64::from(tables.class(0)))?;
+    push_define(output, b"YY_RULE_COLUMN", classes)?;
+    push_define(output, b"YY_END_CLASS", classes + 1)?;
+    push_define(output, b"YY_ROW_WIDTH", classes + 2)
+}
+
+/// Appends the numbers of rules, and what the arrays are read by.
+fn push_table_macros(
+    output: &mut Output,
+    tables: &Tables,
+    form: ScannerForm,
+) -> Result<(), AllocError> {
     output.push(b"\n")?;
     push_define(output, b"YY_DEFAULT_RULE", u64::from(tables.rules()) + 1)?;
     output.push(
         b"#define YY_NUM_RULES YY_DEFAULT_RULE\n#define YY_END_OF_BUFFER (YY_DEFAULT_RULE + 1)\n",
     )?;
     output.push(b"#define YY_STATE_EOF(state) (YY_END_OF_BUFFER + (state) + 1)\n\n")?;
-    push_define(output, b"YY_NUL_CLASS", u64::from(tables.class(0)))?;
-    push_define(output, b"YY_RULE_COLUMN", classes)?;
-    push_define(output, b"YY_END_CLASS", classes + 1)?;
-    push_define(output, b"YY_ROW_WIDTH", classes + 2)
+    match form {
+        ScannerForm::Rows => push_row_macros(output, tables),
+        ScannerForm::States => Ok(()),
+    }
 }
 
 /// Appends the array of the rules whose tokens may have newlines. The default rule's token may be one.
@@ -186,7 +206,7 @@ fn push_rule_arrays(
     environment: &Environment,
     outline: &FileOutline,
 ) -> Result<(), AllocError> {
-    if environment.has(b"yylineno") {
+    if environment.has(b"yylineno") && !environment.has(b"states") {
         push_newlines(output, outline)?;
     }
     if environment.has(b"debug") {
@@ -218,81 +238,6 @@ fn push_list_macros(output: &mut Output, lists: &ListAutomaton) -> Result<(), Al
     )
 }
 
-/// Appends the case that cuts the match of a rule.
-fn push_fixed_cut(
-    output: &mut Output,
-    number: u64,
-    how: &[u8],
-    length: u32,
-) -> Result<(), AllocError> {
-    output.push(b"            case ")?;
-    push_number_then(&mut output.text, number, how)?;
-    push_number_then(&mut output.text, u64::from(length), b"; break;\n")
-}
-
-/// Appends the case that looks for the end of a rule's token. Its parts begin in two conditions of the cut's tables, from this one on.
-fn push_varying_cut(
-    output: &mut Output,
-    environment: &Environment,
-    number: u64,
-    condition: u16,
-    tables: &Tables,
-    can_be_empty: (bool, bool),
-) -> Result<(), AllocError> {
-    output.push(b"            case ")?;
-    push_number_then(
-        &mut output.text,
-        number,
-        b": yy_cp = yy_cut_match(yy_bp, yy_cp, ",
-    )?;
-    push_number_then(&mut output.text, start_row(tables, condition), b", ")?;
-    let context = condition.saturating_add(1);
-    push_number_then(&mut output.text, start_row(tables, context), b", ")?;
-    output.push(if can_be_empty.0 { b"1, " } else { b"0, " })?;
-    output.push(if can_be_empty.1 { b"1" } else { b"0" })?;
-    output.push(if environment.has(b"reentrant") {
-        b", yyscanner"
-    } else {
-        b""
-    })?;
-    output.push(b"); break;\n")
-}
-
-/// Appends the cases that cut trailing context off.
-fn push_cuts(
-    output: &mut Output,
-    environment: &Environment,
-    outline: &FileOutline,
-    cut_tables: Option<&Tables>,
-) -> Result<(), AllocError> {
-    output.push(
-        b"            switch (yy_act) { /* The token ends before its trailing context. */\n",
-    )?;
-    let mut number: u64 = 0;
-    let mut condition: u16 = 1;
-    for rule in outline.rules.as_slice() {
-        let Some(pattern) = rule.pattern else {
-            continue;
-        };
-        number = number.saturating_add(1);
-        match pattern.cut {
-            MatchCut::Whole => {}
-            MatchCut::Before(length) => push_fixed_cut(output, number, b": yy_cp -= ", length)?,
-            MatchCut::First(length) => {
-                push_fixed_cut(output, number, b": yy_cp = yy_bp + ", length)?
-            }
-            MatchCut::Varying { token, context } => {
-                if let Some(tables) = cut_tables {
-                    let can_be_empty = (token, context);
-                    push_varying_cut(output, environment, number, condition, tables, can_be_empty)?;
-                }
-                condition = condition.saturating_add(2);
-            }
-        }
-    }
-    output.push(b"            }\n")
-}
-
 /// Appends the part of a scanner before the arrays of its automaton.
 fn push_head(
     alloc: Global,
@@ -314,7 +259,7 @@ fn push_head(
         environment,
         &[TYPES, BUFFERS, MACROS, TEXT_MACROS, VARIABLES],
     )?;
-    push_table_macros(output, tables)
+    push_table_macros(output, tables, options.form)
 }
 
 /// Appends the user's declarations, and the start conditions.
@@ -330,8 +275,8 @@ fn push_declarations(
     output.push(b"\n")
 }
 
-/// Appends the function `yylex` and what it needs.
-fn push_yylex(
+/// Appends what `yylex` needs, and its beginning, up to the code for states.
+fn push_before_walk(
     alloc: Global,
     output: &mut Output,
     environment: &Environment,
@@ -343,7 +288,14 @@ fn push_yylex(
         alloc,
         output,
         environment,
-        &[GUTS, INTERFACE, HELPERS, READ, STEPS],
+        &[GUTS, INTERFACE, HELPERS, READ],
+    )?;
+    let in_states = environment.has(b"states");
+    push_template(
+        alloc,
+        output,
+        environment,
+        if in_states { STATE_MACROS } else { STEPS },
     )?;
     if cut_tables.is_some() {
         push_template(alloc, output, environment, CUT)?;
@@ -351,11 +303,39 @@ fn push_yylex(
     push_if(alloc, output, environment, b"reject", &[REJECT])?;
     push_template(alloc, output, environment, YYLEX)?;
     places.push_all_code(output, outline.first_code.as_slice())?;
+    push_if(alloc, output, environment, b"states", &[STATE_BEGIN])
+}
+
+/// Appends the walk by rows, and what is done with its match.
+fn push_rows_walk(
+    alloc: Global,
+    output: &mut Output,
+    environment: &Environment,
+    outline: &FileOutline,
+    cut_tables: Option<&Tables>,
+) -> Result<(), AllocError> {
     push_all(alloc, output, environment, &[WALK, END_OF_FILE, ACCEPT])?;
     if outline.has_cut() {
         push_cuts(output, environment, outline, cut_tables)?;
     }
-    push_template(alloc, output, environment, TAKE)?;
+    push_template(alloc, output, environment, TAKE)
+}
+
+/// Appends the rest of `yylex` after the code for states, and what it needs.
+fn push_after_walk(
+    alloc: Global,
+    output: &mut Output,
+    environment: &Environment,
+    outline: &FileOutline,
+    cut_tables: Option<&Tables>,
+    places: CodePlaces,
+) -> Result<(), AllocError> {
+    if environment.has(b"states") {
+        push_matches(alloc, output, environment, outline, cut_tables)?;
+        push_template(alloc, output, environment, STATE_STOP)?;
+    } else {
+        push_rows_walk(alloc, output, environment, outline, cut_tables)?;
+    }
     push_actions(alloc, output, places, outline)?;
     push_all(alloc, output, environment, &[YYLEX_END, GROW, REFILL])?;
     push_if(alloc, output, environment, b"unput", &[UNPUT])?;
@@ -413,6 +393,7 @@ fn places_of<'a>(
         sources: options.sources,
         printed: options.printed,
         with_lines: environment.has(b"line"),
+        as_labels: environment.has(b"states"),
     }
 }
 
@@ -434,8 +415,8 @@ fn middle_of(
     Ok(output)
 }
 
-/// Returns the part of a scanner after its arrays, which begins after a number of lines.
-fn rest_of(
+/// Returns the part of a scanner from its arrays to the code for states. It begins after a number of lines.
+fn code_before_walk(
     alloc: Global,
     environment: &Environment,
     outline: &FileOutline,
@@ -445,7 +426,21 @@ fn rest_of(
 ) -> Result<Output, AllocError> {
     let mut output = Output::after(alloc, lines);
     push_declarations(&mut output, outline, places)?;
-    push_yylex(alloc, &mut output, environment, outline, cut_tables, places)?;
+    push_before_walk(alloc, &mut output, environment, outline, cut_tables, places)?;
+    Ok(output)
+}
+
+/// Returns the part of a scanner after the code for states. It begins after a number of lines.
+fn code_after_walk(
+    alloc: Global,
+    environment: &Environment,
+    outline: &FileOutline,
+    cut_tables: Option<&Tables>,
+    places: CodePlaces,
+    lines: u32,
+) -> Result<Output, AllocError> {
+    let mut output = Output::after(alloc, lines);
+    push_after_walk(alloc, &mut output, environment, outline, cut_tables, places)?;
     push_calls(alloc, &mut output, environment)?;
     if !outline.functions.of(outline.text).is_empty() {
         places.push_code(&mut output, outline.functions)?;
@@ -476,20 +471,47 @@ fn list_arrays_or_none(alloc: Global, lists: Option<&ListAutomaton>) -> Result<V
     }
 }
 
-/// The arrays of a scanner.
+/// Returns the arrays of the rules in a form.
+fn rule_arrays(alloc: Global, form: ScannerForm, tables: &Tables) -> Result<Vec<u8>, AllocError>
+    ensures { IfOk result (λ text. text.items ≡ automaton_arrays form tables.now) }
+{
+    match form {
+        ScannerForm::Rows => arrays_of(alloc, tables),
+        ScannerForm::States => state_arrays_of(alloc, tables),
+    }
+}
+
+/// Returns the code for states, or the empty text for the form that has none.
+fn walk_of(alloc: Global, form: ScannerForm, tables: &Tables) -> Result<Vec<u8>, AllocError>
+    ensures { IfOk result (λ text. text.items ≡ walk_text form tables.now) }
+{
+    match form {
+        ScannerForm::Rows => Ok(Vec::new(alloc)),
+        ScannerForm::States => states_of(alloc, tables),
+    }
+}
+
+/// The arrays of a scanner, and its code for states.
 #[derive(Drop)]
 struct ScannerArrays {
     rules: Vec<u8>,
+    walk: Vec<u8>,
     /// Arrays for the ends of tokens.
     cuts: Vec<u8>,
     /// Arrays for `REJECT`.
     lists: Vec<u8>,
 }
 
-/// Returns the arrays of tables.
-fn scanner_arrays(alloc: Global, tables: ScannerTables) -> Result<ScannerArrays, AllocError>
+/// Returns the arrays of tables, and the code for their states.
+fn scanner_arrays(
+    alloc: Global,
+    tables: ScannerTables,
+    form: ScannerForm,
+) -> Result<ScannerArrays, AllocError>
     ensures rules { IfOk result (λ arrays. arrays.rules.items
-        ≡ arrays_text (codes "yy_") tables.entry.tables.now.machine (length tables.entry.tables.now.rules)) }
+        ≡ automaton_arrays form tables.entry.tables.now) }
+    ensures walk { IfOk result (λ arrays. arrays.walk.items
+        ≡ walk_text form tables.entry.tables.now) }
     ensures cuts { IfOk result (λ arrays.
         IfSome tables.entry.cut_tables (λ t. arrays.cuts.items ≡ cut_arrays_text t.now)) }
     ensures lists { IfOk result (λ arrays.
@@ -497,40 +519,56 @@ fn scanner_arrays(alloc: Global, tables: ScannerTables) -> Result<ScannerArrays,
     ensures small { IfOk result (λ _. IfSome tables.entry.lists (λ l. HasSmallPlaces l.now.lists)) }
 {
     Ok(ScannerArrays {
-        rules: arrays_of(alloc, tables.tables)?,
+        rules: rule_arrays(alloc, form, tables.tables)?,
+        walk: walk_of(alloc, form, tables.tables)?,
         cuts: cut_arrays_or_none(alloc, tables.cut_tables)?,
         lists: list_arrays_or_none(alloc, tables.lists)?,
     })
 }
 
-/// Joins the parts of a scanner: its arrays and the texts between them.
-fn joined(
+/// The texts between the arrays of a scanner.
+#[derive(Drop)]
+struct ScannerTexts {
     head: Output,
-    arrays: &ScannerArrays,
-    middle: &Output,
-    rest: &Output,
-) -> Result<Vec<u8>, AllocError>
-    ensures rules { IfOk result (λ text. text.items ≡ head.text.items ++ (arrays.now.rules.items
-        ++ (middle.now.text.items ++ arrays.now.cuts.items ++ arrays.now.lists.items ++ rest.now.text.items))) }
+    middle: Output,
+    before_walk: Output,
+    after_walk: Output,
+}
+
+/// Joins the parts of a scanner: its arrays and the texts between them.
+fn joined(texts: ScannerTexts, arrays: &ScannerArrays) -> Result<Vec<u8>, AllocError>
+    ensures rules { IfOk result (λ text. text.items ≡ texts.head.text.items ++ (arrays.now.rules.items
+        ++ (texts.middle.text.items ++ arrays.now.cuts.items ++ arrays.now.lists.items ++ texts.before_walk.text.items
+        ++ (arrays.now.walk.items ++ texts.after_walk.text.items)))) }
     ensures cuts { IfOk result (λ text. text.items
-        ≡ head.text.items ++ arrays.now.rules.items ++ middle.now.text.items
-        ++ (arrays.now.cuts.items ++ (arrays.now.lists.items ++ rest.now.text.items))) }
+        ≡ texts.head.text.items ++ arrays.now.rules.items ++ texts.middle.text.items
+        ++ (arrays.now.cuts.items ++ (arrays.now.lists.items ++ texts.before_walk.text.items
+        ++ arrays.now.walk.items ++ texts.after_walk.text.items))) }
     ensures lists { IfOk result (λ text. text.items
-        ≡ head.text.items ++ arrays.now.rules.items ++ middle.now.text.items ++ arrays.now.cuts.items
-        ++ (arrays.now.lists.items ++ rest.now.text.items)) }
+        ≡ texts.head.text.items ++ arrays.now.rules.items ++ texts.middle.text.items ++ arrays.now.cuts.items
+        ++ (arrays.now.lists.items ++ (texts.before_walk.text.items ++ arrays.now.walk.items
+        ++ texts.after_walk.text.items))) }
 {
+    let ScannerTexts {
+        head,
+        middle,
+        before_walk,
+        after_walk,
+    } = texts;
     let Output { text, .. } = head;
     let mut text = text;
     text.extend_from_slice(arrays.rules.as_slice())?;
     text.extend_from_slice(middle.text.as_slice())?;
     text.extend_from_slice(arrays.cuts.as_slice())?;
     text.extend_from_slice(arrays.lists.as_slice())?;
-    text.extend_from_slice(rest.text.as_slice())?;
+    text.extend_from_slice(before_walk.text.as_slice())?;
+    text.extend_from_slice(arrays.walk.as_slice())?;
+    text.extend_from_slice(after_walk.text.as_slice())?;
     Ok(text)
 }
 
-/// Returns the number of lines before the rest of a scanner.
-fn lines_before_rest(head: &mut Output, arrays: &ScannerArrays, middle: &Output) -> u32 {
+/// Returns the number of lines before the declarations of a scanner.
+fn lines_before_code(head: &mut Output, arrays: &ScannerArrays, middle: &Output) -> u32 {
     head.line()
         .saturating_sub(1)
         .saturating_add(lines_in(arrays.rules.as_slice()))
@@ -539,20 +577,15 @@ fn lines_before_rest(head: &mut Output, arrays: &ScannerArrays, middle: &Output)
         .saturating_add(lines_in(arrays.lists.as_slice()))
 }
 
-/// Returns a scanner in C of a file and its tables. It has the arrays of each of these.
-pub fn scanner_of<'a>(
+/// Returns the texts between the arrays.
+fn texts_of<'a>(
     alloc: Global,
     outline: &FileOutline<'a>,
     tables: ScannerTables,
     options: PrintOptions<'a>,
-) -> Result<Vec<u8>, AllocError>
-    ensures rules { IfOk result (λ text. HasArrays tables.entry.tables.now text.items) }
-    ensures cuts { IfOk result (λ text.
-        IfSome tables.entry.cut_tables (λ t. HasCutArrays t.now text.items)) }
-    ensures lists { IfOk result (λ text.
-        IfSome tables.entry.lists (λ l. HasListArrays l.now.automaton l.now.lists text.items)) }
-{
-    let environment = environment_of(alloc, outline, false)?;
+    arrays: &ScannerArrays,
+) -> Result<ScannerTexts, AllocError> {
+    let environment = environment_of(alloc, outline, false, options.form)?;
     let places = places_of(outline, &environment, options);
     let mut head = Output::after(alloc, 0);
     push_head(
@@ -564,18 +597,47 @@ pub fn scanner_of<'a>(
         options,
         places,
     )?;
-    let arrays = scanner_arrays(alloc, tables)?;
     let middle = middle_of(alloc, &environment, outline, tables)?;
-    let lines = lines_before_rest(&mut head, &arrays, &middle);
-    let rest = rest_of(
+    let lines = lines_before_code(&mut head, arrays, &middle);
+    let cut_tables = tables.cut_tables;
+    let mut before_walk = code_before_walk(
         alloc,
         &environment,
         outline,
-        tables.cut_tables,
+        cut_tables,
         places,
         lines,
     )?;
-    joined(head, &arrays, &middle, &rest)
+    let lines = before_walk
+        .line()
+        .saturating_sub(1)
+        .saturating_add(lines_in(arrays.walk.as_slice()));
+    let after_walk = code_after_walk(alloc, &environment, outline, cut_tables, places, lines)?;
+    Ok(ScannerTexts {
+        head,
+        middle,
+        before_walk,
+        after_walk,
+    })
+}
+
+/// Returns a scanner in C of a file and its tables. It has the arrays of each of these, or the code for the states of the first.
+pub fn scanner_of<'a>(
+    alloc: Global,
+    outline: &FileOutline<'a>,
+    tables: ScannerTables,
+    options: PrintOptions<'a>,
+) -> Result<Vec<u8>, AllocError>
+    ensures rules { IfOk result (λ text.
+        HasForm options.entry.form tables.entry.tables.now text.items) }
+    ensures cuts { IfOk result (λ text.
+        IfSome tables.entry.cut_tables (λ t. HasCutArrays t.now text.items)) }
+    ensures lists { IfOk result (λ text.
+        IfSome tables.entry.lists (λ l. HasListArrays l.now.automaton l.now.lists text.items)) }
+{
+    let arrays = scanner_arrays(alloc, tables, options.form)?;
+    let texts = texts_of(alloc, outline, tables, options, &arrays)?;
+    joined(texts, &arrays)
 }
 
 /// Returns the header of a scanner.
@@ -584,7 +646,7 @@ pub fn header_of<'a>(
     outline: &FileOutline<'a>,
     options: PrintOptions<'a>,
 ) -> Result<Vec<u8>, AllocError> {
-    let environment = environment_of(alloc, outline, true)?;
+    let environment = environment_of(alloc, outline, true, options.form)?;
     let places = places_of(outline, &environment, options);
     let mut output = Output::after(alloc, 0);
     places.push_all_code(&mut output, outline.declared.top.as_slice())?;

@@ -339,7 +339,9 @@ pub(crate) const FATAL: &[u8] = br#"/* Prints a message and ends the program. */
 static void yy_fatal_error(const char *yy_message@P)
 {
 %if reentrant
-    (void)yyscanner;
+    /* What a program makes of exit may name members of yyg. */
+    struct yyguts_t *yyg = (struct yyguts_t *)yyscanner;
+    (void)yyg;
 %end
     fprintf(stderr, "%s\n", yy_message);
     exit(YY_EXIT_FAILURE);

@@ -8,10 +8,17 @@ pub(crate) const OPENING: &[u8] = br#"%if in-header
 /* Declares the scanner that lx flex made, for the programs that call it. */
 
 %else
+%if states
+/* A scanner in C, made by lx flex. Edit the file for flex, not this one.
+
+   The code from yy_s0 on has a label for each state of an automaton, which names the earliest rule that matches after every text. That is
+   proved of the rules as lx read them, and so is that each state's steps are printed here. The C code as a whole is tested, not proved. */
+%else
 /* A scanner in C, made by lx flex. Edit the file for flex, not this one.
 
    The arrays yy_class, yy_rows and yy_first hold the rules: after every text the row that is reached names the earliest rule that matches
    that text. This is proved of the rules as lx read them. The C code around the arrays is tested, not proved. */
+%end
 
 %end
 #define FLEX_SCANNER
@@ -266,6 +273,9 @@ pub(crate) const MACROS: &[u8] = br#"#define YY_NULL 0
 typedef unsigned char YY_CHAR;
 %if debug
 #define FLEX_DEBUG
+%end
+%if lex-compat
+#define YY_FLEX_LEX_COMPAT
 %end
 %if !yywrap
 #define YY_SKIP_YYWRAP
@@ -649,6 +659,11 @@ static int yy_unused yy_top_state(@p);
 #ifndef yyterminate
 #define yyterminate() return YY_NULL
 #endif
+%if states
+#if defined YY_USER_ACTION || defined YY_RULE_SETUP || defined YY_BREAK
+#define YY_HAS_HOOKS
+#endif
+%end
 #ifndef YY_USER_ACTION
 #define YY_USER_ACTION
 #endif

@@ -152,8 +152,16 @@ pub(crate) const YYLEX: &[u8] =
     br#"/* Returns what the action of a match returns, and YY_NULL at the end of the input. Actions that don't return go on with the next match. */
 YY_DECL
 {
+%if states
+    unsigned int yy_current_state; /* the state where the walk has come to a NUL */
+    unsigned char yy_c;
+    char *yy_bp, *yy_cp; /* the match that is looked for, from yy_bp to before yy_cp */
+    char *yy_last; /* the last place where a rule matched before the walk went on */
+    int yy_last_rule;
+%else
     unsigned int yy_current_state, yy_next_state;
     char *yy_bp, *yy_cp; /* the match that is looked for, from yy_bp to before yy_cp */
+%end
     int yy_act;
 %if reject
     int yy_match_start = 0; /* where the match began in yy_first */
@@ -422,7 +430,11 @@ pub(crate) const TAKE: &[u8] = br#"%if array
         switch (yy_act) {
 "#;
 
-pub(crate) const YYLEX_END: &[u8] = br#"        case YY_DEFAULT_RULE:
+pub(crate) const YYLEX_END: &[u8] = br#"%if states
+yy_do_default:
+%else
+        case YY_DEFAULT_RULE:
+%end
         YY_RULE_SETUP
 %if default
         ECHO;
@@ -494,11 +506,11 @@ static int yy_refill(@p)
         yy_room = YY_READ_BUF_SIZE;
 
     yy_dest = yy_buffer->yy_ch_buf + yy_kept;
-    YY_INPUT(yy_dest, yy_count, yy_room);
-    if (yy_count <= 0) {
-        yy_count = 0;
+    YY_INPUT(yy_dest, @gyy_n_chars, yy_room); /* A program's YY_INPUT may read the number of bytes before it sets it. */
+    if (@gyy_n_chars > 0)
+        yy_count = @gyy_n_chars;
+    else
         yy_buffer->yy_buffer_status = YY_BUFFER_EOF_PENDING;
-    }
     @gyy_n_chars = yy_buffer->yy_n_chars = yy_kept + yy_count;
     while (@gyy_n_chars > yy_buffer->yy_buf_size) /* YY_INPUT gave more than it was asked for. */
         yy_grow_buffer("out of dynamic memory in yy_get_next_buffer()"@A);

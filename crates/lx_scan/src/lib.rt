@@ -1,4 +1,4 @@
-//! The scanner: cuts a text into items by tables.
+//! The scanner: cuts a text into items by tables, also a text that arrives in blocks.
 #![tactic(auto)]
 
 pub mod answering;

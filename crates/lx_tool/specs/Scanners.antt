@@ -5,10 +5,12 @@ use Rattle.std.specs.Io.KnownBytes.{Appends, Keeps}
 use Rattle.lx_automaton.specs.Lists.{IsListAutomatonOf}
 use Rattle.lx_automaton.specs.declared.lists.ListAutomaton.{ListAutomaton}
 use Rattle.lx_cli.specs.declared.version.TheConstants.{VERSION}
-use Rattle.lx_lex.specs.Arrays.{HasArrays, HasCutArrays}
+use Rattle.lx_lex.specs.Arrays.{HasCutArrays}
 use Rattle.lx_lex.specs.Cuts.{IsCutSpec, parts_of}
 use Rattle.lx_lex.specs.Lists.{HasListArrays}
+use Rattle.lx_lex.specs.StateCode.{HasForm}
 use Rattle.lx_lex.specs.Translation.{FileRule, IsScannerSpec}
+use Rattle.lx_lex.specs.declared.forms.ScannerForm.{ScannerForm}
 use Rattle.lx_rules.specs.Plain.{PlainSpec, StartCondition}
 use Rattle.lx_tables.specs.Model.{AreTablesOf, Table}
 use Rattle.lx_tool.specs.declared.scanner_help.TheConstants.{FLEX_HELP, LEX_HELP}
@@ -77,15 +79,16 @@ pub record IsMade (spec : PlainSpec) (cuts : Option Table) : Type 0 where
 abbrev pub FindsLists : PlainSpec → Option ListAutomaton → Type 0
 FindsLists spec lists = IfSome lists (λ l. IsListAutomatonOf spec l.automaton l.lists)
 
--- The text is a scanner. It has the arrays of the tables of such a specification, those that find the ends of tokens, and those that find all rules for REJECT, if
--- there are any.
+-- The text is a scanner. It has the arrays of the tables of such a specification, or the code for the states of these tables; the arrays that find the ends of tokens;
+-- and those that find all rules for REJECT, if there are any.
 pub record IsScanner (text : List ℕ) : Type 0 where
   pub spec : PlainSpec
   pub cuts : Option Table
   pub is_made : IsMade spec cuts
   pub table : Table
   pub are_tables : AreTablesOf spec table
-  pub has_arrays : HasArrays table text
+  pub form : ScannerForm
+  pub has_form : HasForm form table text
   pub has_cut_arrays : IfSome cuts (λ t. HasCutArrays t text)
   pub lists : Option ListAutomaton
   pub are_lists : FindsLists spec lists

@@ -14,7 +14,8 @@ FILE.. are read as one text. Without any, or for -, standard input is read.
       --header-file[=FILE]
                           writes a header too: to FILE, or to lex.yy.h
   -i, --case-insensitive  ignores case in patterns
-  -l, --lex-compat        inserts definitions as text, and reads intervals as POSIX does
+  -l, --lex-compat        inserts definitions as text, reads intervals as POSIX does,
+                          makes yytext an array and counts lines
   -X, --posix-compat      reads intervals as POSIX does: ab{2} is (ab){2}
   -s, --nodefault         ends with an error where no rule matches
   -d, --debug             makes a scanner that traces its rules on standard error
@@ -29,13 +30,16 @@ FILE.. are read as one text. Without any, or for -, standard input is read.
       --always-interactive, --never-interactive
                           reads line by line, or never does
       --read, -Cr         reads with read(2)
+      --form=states, --form=rows
+                          prints code for each state, or arrays with a row for each
   -D NAME[=VALUE]         defines a macro
   -L, --noline            prints no #line directives
   -v, --verbose           prints a summary to standard error
   -w, --nowarn            prints no warnings
   -V, --version           prints the version
   -h, --help              prints this text
-  -7 -8 -B -C[aefFm] -F -I -T -b -c -f -n -p
+  -Ce -Cm                 ask for rows
+  -7 -8 -B -C[afF] -F -I -T -b -c -f -n -p
                           are accepted and change nothing
 
 Each word of %option is an option too, as --yylineno or --noyywrap.
@@ -56,7 +60,8 @@ FILE.. are read as one text. Without any, or for -, standard input is read.
       --header-file[=FILE]
                           writes a header too: to FILE, or to lex.yy.h
   -i, --case-insensitive  ignores case in patterns
-  -l, --lex-compat        inserts definitions as text, and reads intervals as POSIX does
+  -l, --lex-compat        inserts definitions as text, reads intervals as POSIX does,
+                          makes yytext an array and counts lines
   -X, --posix-compat      reads intervals as POSIX does: ab{2} is (ab){2}
   -s, --nodefault         ends with an error where no rule matches
   -d, --debug             makes a scanner that traces its rules on standard error
@@ -71,13 +76,16 @@ FILE.. are read as one text. Without any, or for -, standard input is read.
       --always-interactive, --never-interactive
                           reads line by line, or never does
       --read, -Cr         reads with read(2)
+      --form=states, --form=rows
+                          prints code for each state, or arrays with a row for each
   -D NAME[=VALUE]         defines a macro
   -L, --noline            prints no #line directives
   -v, --verbose           prints a summary to standard error
   -w, --nowarn            prints no warnings
   -V, --version           prints the version
   -h, --help              prints this text
-  -7 -8 -B -C[aefFm] -F -I -T -b -c -f -n -p
+  -Ce -Cm                 ask for rows
+  -7 -8 -B -C[afF] -F -I -T -b -c -f -n -p
                           are accepted and change nothing
 
 Each word of %option is an option too, as --yylineno or --noyywrap.

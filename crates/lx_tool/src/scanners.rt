@@ -21,7 +21,7 @@ use lx_flex::Reports;
 use lx_flex::file::{FlexFile, read_file};
 use lx_flex::flags::{FlexAnswer, FlexCommand, read_command};
 use lx_flex::options::FlexOptions;
-use lx_lex::{PrintOptions, ScannerTables, header_of, scanner_of};
+use lx_lex::{PrintOptions, ScannerTables, asked_form, form_of, header_of, scanner_of};
 use lx_report::{NamedText, push_reports};
 use std::alloc::{AllocError, Global};
 use std::io::Write;
@@ -308,10 +308,12 @@ fn print_file<'a, T: Targets, O: Write>(
     let made = made_of(alloc, file, &mut reports);
     push_reports(alloc, notes, source, &reports, false)?;
     let made = made?;
+    let asked = asked_form(&made.outline.declared.options);
     let options = PrintOptions {
         sources: source.names,
         printed: scanner_name.unwrap_or("<stdout>").as_bytes(),
         macros: words.macros,
+        form: form_of(made.lists.is_some(), asked, &made.tables),
     };
     let scanner = scanner_text(alloc, &made, options, notes)?;
     let header = header_of(alloc, &made.outline, options)?;

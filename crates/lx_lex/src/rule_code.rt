@@ -1,0 +1,206 @@
+//! The end of the match of a rule, before its action: its trailing context is cut off.
+
+use crate::arrays::start_row;
+use crate::outline::{FileOutline, MatchCut, PatternOutline};
+use crate::skeleton_states::STATE_BACK;
+use crate::template::{Environment, Output, push_template};
+use lx_c::pushing::push_number_then;
+use lx_tables::Tables;
+use std::alloc::{AllocError, Global};
+
+/// Appends the statement that looks for the end of a rule's token. Its parts begin in two conditions of the cut's tables, from this one on.
+fn push_varying_cut(
+    output: &mut Output,
+    environment: &Environment,
+    condition: u16,
+    tables: &Tables,
+    can_be_empty: (bool, bool),
+) -> Result<(), AllocError> {
+    output.push(b"yy_cp = yy_cut_match(yy_bp, yy_cp, ")?;
+    push_number_then(&mut output.text, start_row(tables, condition), b", ")?;
+    let context = condition.saturating_add(1);
+    push_number_then(&mut output.text, start_row(tables, context), b", ")?;
+    output.push(if can_be_empty.0 { b"1, " } else { b"0, " })?;
+    output.push(if can_be_empty.1 { b"1" } else { b"0" })?;
+    output.push(if environment.has(b"reentrant") {
+        b", yyscanner"
+    } else {
+        b""
+    })?;
+    output.push(b");")
+}
+
+/// What the ends of tokens are found by: the tables for those of several lengths, and the condition of the next rule with such a token.
+#[derive(Clone, Copy)]
+struct CutPlace<'t> {
+    tables: Option<&'t Tables>,
+    condition: u16,
+}
+
+/// Appends the statement that cuts the match of a rule.
+fn push_cut(
+    output: &mut Output,
+    environment: &Environment,
+    cut: MatchCut,
+    place: &mut CutPlace,
+) -> Result<(), AllocError> {
+    match cut {
+        MatchCut::Whole => Ok(()),
+        MatchCut::Before(length) => {
+            output.push(b"yy_cp -= ")?;
+            push_number_then(&mut output.text, u64::from(length), b";")
+        }
+        MatchCut::First(length) => {
+            output.push(b"yy_cp = yy_bp + ")?;
+            push_number_then(&mut output.text, u64::from(length), b";")
+        }
+        MatchCut::Varying { token, context } => {
+            let condition = place.condition;
+            place.condition = condition.saturating_add(2);
+            match place.tables {
+                Some(tables) => {
+                    push_varying_cut(output, environment, condition, tables, (token, context))
+                }
+                None => Ok(()),
+            }
+        }
+    }
+}
+
+/// Appends the cases that cut trailing context off.
+pub(crate) fn push_cuts(
+    output: &mut Output,
+    environment: &Environment,
+    outline: &FileOutline,
+    cut_tables: Option<&Tables>,
+) -> Result<(), AllocError> {
+    output.push(
+        b"            switch (yy_act) { /* The token ends before its trailing context. */\n",
+    )?;
+    let mut place = CutPlace {
+        tables: cut_tables,
+        condition: 1,
+    };
+    let mut number: u64 = 0;
+    for rule in outline.rules.as_slice() {
+        let Some(pattern) = rule.pattern else {
+            continue;
+        };
+        number = number.saturating_add(1);
+        if pattern.cut != MatchCut::Whole {
+            output.push(b"            case ")?;
+            push_number_then(&mut output.text, number, b": ")?;
+            push_cut(output, environment, pattern.cut, &mut place)?;
+            output.push(b" break;\n")?;
+        }
+    }
+    output.push(b"            }\n")
+}
+
+/// Appends the counting of lines in a match, and the flag for the start of the next line.
+fn push_ends(
+    output: &mut Output,
+    environment: &Environment,
+    pattern: PatternOutline,
+    is_skipped: bool,
+) -> Result<(), AllocError> {
+    if environment.has(b"yylineno") && pattern.has_newline {
+        output.push(b"YY_COUNT_LINES\n")?;
+    }
+    if !environment.has(b"bol") {
+        return Ok(());
+    }
+    if !pattern.has_newline && pattern.cut == MatchCut::Whole {
+        return output.push(b"YY_END_NO_LINE\n");
+    }
+    output.push(if is_skipped {
+        b"YY_END_SKIPPED_LINE\n"
+    } else {
+        b"YY_END_LINE\n"
+    })
+}
+
+/// Appends what is done with a match of a rule, up to the jump to its action. A rule without an action goes on with the next match.
+fn push_match(
+    output: &mut Output,
+    environment: &Environment,
+    number: u64,
+    pattern: PatternOutline,
+    is_idle: bool,
+) -> Result<(), AllocError> {
+    let is_skipped = is_idle && !environment.has(b"yymore") && !environment.has(b"debug");
+    if is_skipped {
+        push_ends(output, environment, pattern, true)?;
+        output.push(b"YY_SKIP\n")?;
+    }
+    output.push(b"yy_act = ")?;
+    push_number_then(&mut output.text, number, b";\nYY_TAKE\n")?;
+    if !is_skipped {
+        push_ends(output, environment, pattern, false)?;
+    }
+    if environment.has(b"debug") {
+        output.push(b"YY_TRACE\n")?;
+    }
+    Ok(())
+}
+
+/// Appends the jumps from the number of a rule to what is done with its match.
+fn push_jumps(output: &mut Output, outline: &FileOutline) -> Result<(), AllocError> {
+    let mut number: u64 = 0;
+    for rule in outline.rules.as_slice() {
+        if rule.pattern.is_some() {
+            number = number.saturating_add(1);
+            output.push(b"case ")?;
+            push_number_then(&mut output.text, number, b": goto yy_a")?;
+            push_number_then(&mut output.text, number, b";\n")?;
+        }
+    }
+    output.push(b"default: yy_cp = yy_bp + 1; goto yy_a_default;\n}\n")
+}
+
+/// Appends what is done with the byte that no rule matches.
+fn push_default_match(
+    output: &mut Output,
+    environment: &Environment,
+    number: u64,
+) -> Result<(), AllocError> {
+    let pattern = PatternOutline {
+        line_begin: false,
+        has_newline: true,
+        cut: MatchCut::Whole,
+    };
+    output.push(b"yy_a_default:\n")?;
+    push_match(output, environment, number, pattern, false)?;
+    output.push(b"goto yy_do_default;\n")
+}
+
+/// Appends what is done where a walk through the states ends: the last place is found where a rule matched, and that rule's match is taken.
+pub(crate) fn push_matches(
+    alloc: Global,
+    output: &mut Output,
+    environment: &Environment,
+    outline: &FileOutline,
+    cut_tables: Option<&Tables>,
+) -> Result<(), AllocError> {
+    push_template(alloc, output, environment, STATE_BACK)?;
+    push_jumps(output, outline)?;
+    let mut place = CutPlace {
+        tables: cut_tables,
+        condition: 1,
+    };
+    let mut number: u64 = 0;
+    for index in 0..outline.rules.len() {
+        let Some(pattern) = outline.rules[index].pattern else {
+            continue;
+        };
+        number = number.saturating_add(1);
+        output.push(b"yy_a")?;
+        push_number_then(&mut output.text, number, b":\n")?;
+        push_cut(output, environment, pattern.cut, &mut place)?;
+        output.end_line()?;
+        push_match(output, environment, number, pattern, outline.is_idle(index))?;
+        output.push(b"goto yy_do_")?;
+        push_number_then(&mut output.text, number, b";\n")?;
+    }
+    push_default_match(output, environment, number.saturating_add(1))
+}

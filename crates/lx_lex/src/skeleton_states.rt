@@ -1,0 +1,228 @@
+//! The scanner as code for each state: the macros of this code, and what goes on where a walk stops.
+
+/// The macros that the code of states and rules uses.
+pub(crate) const STATE_MACROS: &[u8] =
+    br#"/* Goes on while a byte leads back to the same state. Two NULs follow the text, and no set has byte 0, so the end needs no test of its own. */
+#define YY_LOOP(set) \
+    for (;;) { \
+        if (!set[yy_c = (unsigned char)yy_cp[0]]) { break; } \
+        if (!set[yy_c = (unsigned char)yy_cp[1]]) { yy_cp += 1; break; } \
+        if (!set[yy_c = (unsigned char)yy_cp[2]]) { yy_cp += 2; break; } \
+        if (!set[yy_c = (unsigned char)yy_cp[3]]) { yy_cp += 3; break; } \
+        yy_cp += 4; \
+    }
+
+/* Takes the next byte. */
+#define YY_NEXT yy_c = (unsigned char)*yy_cp;
+
+/* Steps to another state. */
+#define YY_GO(label) ++yy_cp; goto label;
+
+/* Keeps the place, before a step from a state that accepts a rule to one that accepts none. */
+#define YY_KEEP(rule) yy_last = yy_cp; yy_last_rule = rule;
+
+/* No step is left. At byte 0 the text may end. */
+#define YY_STOP(state, label) { if (yy_c == '\0') { yy_current_state = state; goto yy_at_nul; } goto label; }
+
+/* Makes yytext the match. */
+#define YY_TAKE \
+%if array
+    yyleng = (int)(yy_cp - yy_bp); \
+%if yymore
+    if (yyleng >= YYLMAX - @gyy_more_offset) \
+%else
+    if (yyleng >= YYLMAX) \
+%end
+        YY_FATAL_ERROR("token too large, exceeds YYLMAX"); \
+    @gyytext_ptr = yy_bp; \
+%if yymore
+    memcpy(yytext + @gyy_more_offset, yy_bp, (size_t)yyleng); \
+    yyleng += @gyy_more_offset; \
+    @gyy_prev_more_offset = @gyy_more_offset; \
+    @gyy_more_offset = 0; \
+%else
+    memcpy(yytext, yy_bp, (size_t)yyleng); \
+%end
+    yytext[yyleng] = '\0'; \
+%else
+%if yymore
+    @gyytext_ptr = yy_bp - @gyy_more_len; \
+%else
+    @gyytext_ptr = yy_bp; \
+%end
+    yyleng = (int)(yy_cp - @gyytext_ptr); \
+%end
+    @gyy_c_buf_p = yy_cp; \
+    @gyy_hold_char = *yy_cp; \
+    *yy_cp = '\0';
+
+%if yylineno
+/* Counts the lines of a match. */
+#define YY_COUNT_LINES { \
+        const char *yy_place = yy_bp; \
+        if (yy_cp - yy_bp < 24) { /* Few bytes are compared faster than memchr is called. */ \
+            for (; yy_place < yy_cp; ++yy_place) { \
+                if (*yy_place == '\n') \
+                    YY_COUNT_LINE \
+            } \
+        } else { \
+            while ((yy_place = (const char *)memchr(yy_place, '\n', (size_t)(yy_cp - yy_place))) != NULL) { \
+                ++yy_place; \
+                YY_COUNT_LINE \
+            } \
+        } \
+    }
+%if reentrant
+#define YY_COUNT_LINE { ++yylineno; yycolumn = 0; }
+%else
+#define YY_COUNT_LINE { ++yylineno; }
+%end
+
+%end
+%if bol
+/* Stores if the next match begins a line. In a rule that can't match a newline it doesn't. */
+#define YY_END_LINE if (yyleng > 0) YY_CURRENT_BUFFER_LVALUE->yy_at_bol = yytext[yyleng - 1] == '\n';
+#define YY_END_SKIPPED_LINE if (yy_cp > yy_bp) YY_CURRENT_BUFFER_LVALUE->yy_at_bol = yy_cp[-1] == '\n';
+#define YY_END_NO_LINE YY_CURRENT_BUFFER_LVALUE->yy_at_bol = 0;
+
+%end
+%if debug
+/* Traces a match. */
+#define YY_TRACE \
+    if (yy_flex_debug) { \
+        if (yy_act == YY_DEFAULT_RULE) \
+            fprintf(stderr, "--accepting default rule (\"%s\")\n", yytext); \
+        else \
+            fprintf(stderr, "--accepting rule at line %d (\"%s\")\n", yy_rule_linenum[yy_act], yytext); \
+    }
+
+%end
+/* A rule without an action leaves yytext alone, unless the program has macros that are to see each match. */
+#if defined YY_HAS_HOOKS
+#define YY_SKIP
+#else
+#define YY_SKIP { yy_bp = yy_cp; goto yy_next_match; }
+#endif
+
+"#;
+
+/// The beginning of a match, up to the starts of the conditions.
+pub(crate) const STATE_BEGIN: &[u8] = br#"    for (;;) {
+%if yymore
+%if !array
+        @gyy_more_len = 0;
+        if (@gyy_more_flag) {
+            @gyy_more_flag = 0;
+            if (@gyy_c_buf_p > @gyytext_ptr)
+                @gyy_more_len = (int)(@gyy_c_buf_p - @gyytext_ptr);
+        }
+%end
+%end
+        *@gyy_c_buf_p = @gyy_hold_char;
+        yy_bp = yy_cp = @gyy_c_buf_p;
+    yy_next_match: yy_unused;
+        yy_last = yy_bp;
+        yy_last_rule = 0;
+%if bol
+        switch (@gyy_start - 1 + (YY_AT_BOL() != 0)) {
+%else
+        switch (@gyy_start - 1) {
+%end
+        default:
+"#;
+
+/// The code where the last state accepts no rule, up to the labels of the rules.
+pub(crate) const STATE_BACK: &[u8] = br#"
+    /* No rule matches all of it: the last place counts where one did. */
+    yy_a0: yy_unused;
+        yy_cp = yy_last;
+        switch (yy_last_rule) {
+"#;
+
+/// The code where a walk comes to a NUL of the text, or to the end of what was read.
+pub(crate) const STATE_STOP: &[u8] = br#"
+    yy_at_nul:
+        if (yy_cp < YY_CURRENT_BUFFER_LVALUE->yy_ch_buf + @gyy_n_chars) { /* a NUL of the text */
+%if debug
+            if (yy_flex_debug)
+                fprintf(stderr, "--(end of buffer or a NUL)\n");
+%end
+            if (yy_nul[yy_current_state] == 0)
+                goto yy_stopped;
+            if (yy_accept[yy_current_state] != 0) {
+                yy_last = yy_cp;
+                yy_last_rule = yy_accept[yy_current_state];
+            }
+            yy_current_state = yy_nul[yy_current_state] - 1u;
+            ++yy_cp;
+        } else {
+            size_t yy_kept = (size_t)(yy_last - yy_bp);
+%if debug
+            if (yy_flex_debug)
+                fprintf(stderr, "--(end of buffer or a NUL)\n");
+%end
+%if yymore
+%if array
+            @gyytext_ptr = yy_bp;
+%else
+            @gyytext_ptr = yy_bp - @gyy_more_len;
+%end
+%else
+            @gyytext_ptr = yy_bp;
+%end
+            @gyy_c_buf_p = yy_cp;
+            @gyy_hold_char = '\0';
+            yy_act = yy_refill(@a);
+%if yymore
+%if array
+            yy_bp = @gyytext_ptr;
+%else
+            yy_bp = @gyytext_ptr + @gyy_more_len;
+%end
+%else
+            yy_bp = @gyytext_ptr;
+%end
+            yy_cp = @gyy_c_buf_p;
+            yy_last = yy_bp + yy_kept;
+            if (yy_act == 0) {
+                if (yy_cp == yy_bp)
+                    goto yy_at_end;
+                goto yy_stopped;
+            }
+        }
+        goto yy_resume;
+
+    yy_stopped:
+        if (yy_accept[yy_current_state] != 0) {
+            yy_last = yy_cp;
+            yy_last_rule = yy_accept[yy_current_state];
+        }
+        goto yy_a0;
+
+    yy_at_end:
+        if (YY_CURRENT_BUFFER_LVALUE->yy_fill_buffer)
+            yyrestart(yyin@A);
+        @gyy_did_buffer_switch_on_eof = 0;
+        if (!yywrap(@a)) {
+            if (!@gyy_did_buffer_switch_on_eof)
+                YY_NEW_FILE;
+            continue;
+        }
+%if array
+%if yymore
+        yyleng = @gyy_more_offset;
+        @gyy_more_offset = 0;
+%else
+        yyleng = 0;
+%end
+        yytext[yyleng] = '\0';
+%else
+        yyleng = (int)(@gyy_c_buf_p - @gyytext_ptr);
+%end
+%if debug
+        if (yy_flex_debug)
+            fprintf(stderr, "--EOF (start condition %d)\n", YY_START);
+%end
+        yy_act = YY_STATE_EOF(YY_START);
+        switch (yy_act) {
+"#;
