@@ -7,7 +7,7 @@ ghost use Rattle.lx_lex.specs.Forms.{chosen_form};
 use lx_flex::options::FlexOptions;
 use lx_tables::Tables;
 
-/// How a scanner finds its matches.
+/// The way in which a scanner finds its matches.
 #[derive(Debug, Clone, Copy, PartialEq, Eq)]
 pub enum ScannerForm {
     /// By arrays, with a row for each state.

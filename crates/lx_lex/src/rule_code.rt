@@ -30,7 +30,7 @@ fn push_varying_cut(
     output.push(b");")
 }
 
-/// What the ends of tokens are found by: the tables for those of several lengths, and the condition of the next rule with such a token.
+/// The means to find the ends of tokens: the tables for those of several lengths, and the condition of the next rule with such a token.
 #[derive(Clone, Copy)]
 struct CutPlace<'t> {
     tables: Option<&'t Tables>,
