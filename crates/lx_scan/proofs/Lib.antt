@@ -1,4 +1,5 @@
 pub mod Actions
+pub mod BlockRuns
 pub mod ByFits
 pub mod ByRuns
 pub mod Choosing
@@ -10,6 +11,7 @@ pub mod Giving
 pub mod OneList
 pub mod Placing
 pub mod Runs
+pub mod Shifting
 pub mod SomeChoice
 pub mod SomeItems
 pub mod Stepping

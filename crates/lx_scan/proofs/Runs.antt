@@ -3,7 +3,7 @@ use Rattle.std.proofs.Common.{◌≡◌, ◌≢◌, ℕ, zero, suc, ◌+◌, ◌
 use Rattle.std.specs.Prelude.{slice_index, slice_set}
 use Rattle.std.specs.Option.{option_map}
 use Rattle.std.proofs.lemmas.Bool.{eq-eqb, eqb-true, le-leb, lt-leb}
-use Rattle.std.proofs.lemmas.List.{length-take-le, take-set, take_more_set}
+use Rattle.std.proofs.lemmas.List.{length-append, length-take-le, take-set, take_more_set}
 use Rattle.lx_automaton.specs.Automata.{accepted_by}
 use Rattle.lx_tables.specs.Joined.{IsJoined, IsJoinedState, begun, ended, is_told, joined_entry, joined_number, joined_step, joined_width, rule_ended, stepped, target_from, transition_at}
 use Rattle.lx_tables.specs.Model.{Table, IsTable, rule_at}
@@ -76,6 +76,17 @@ last_column table is columns entries labels joined byte small =
     on : (b : Bool) → ◌≡◌ {A = ℕ} (if nat_le table.machine.width (if b then table.machine.width else slice_index table.machine.classes byte) then 1 else 0) (if b then 1 else 0)
     on true = ap (λ (t : Bool). if t then 1 else 0) (le-leb table.machine.width table.machine.width (omega arith))
     on false = ap (λ (t : Bool). if t then 1 else 0) (lt-leb table.machine.width (slice_index table.machine.classes byte) (is.machine.below byte small))
+
+-- ---- bytes that follow
+pub more_bytes : (text rest : List ℕ) (n : ℕ) → n < length text → n < length (text ++ rest)
+more_bytes text rest n few = omega (arith, few, length-append text rest)
+
+pub is_place_more : (table : Table) (text rest : List ℕ) (place : Place) → IsPlace table text place → IsPlace table (text ++ rest) place
+is_place_more table text rest place p = record { within = (let within = p.within in omega (arith, length-append text rest)); known = p.known; line_some = p.line_some; line_few = p.line_few }
+
+pub leads_alone : (table : Table) (text : List ℕ) (from : Place) (ends : List End) (condition : ℕ) → ((rest : List ℕ) → LeadTo table (text ++ rest) from ends (place_behind (text ++ rest) from ends condition)) →
+    LeadTo table text from ends (place_behind text from ends condition)
+leads_alone table text from ends condition leads = subst (λ (t : List ℕ). LeadTo table t from ends (place_behind t from ends condition)) (append-nil text) (leads [])
 
 -- ---- a run
 --  From a place a run found these ends. It has read this number of bytes of the text, and is on this line and in this row.

@@ -42,6 +42,18 @@ gives_then a b c items more f g = record {
   kept = λ item k. g.kept item (f.kept item k);
 }
 
+-- items that are appended to those before them
+pub gives_to_both : (a b c : Stream) (x y z : List Item) → GivesTo a b x y → GivesTo b c y z → GivesTo a c x z
+gives_to_both a b c x y z f g = record {
+  given = f.given ++ g.given;
+  after_is = g.after_is ∙ ap (λ (xs : List Item). xs ++ g.given) f.after_is ∙ append_assoc x f.given g.given;
+  gives = gives_then a b c f.given g.given f.gives g.gives;
+  kept = All-append (IsKept c) f.given g.given (All-weaker (IsKept b) (IsKept c) g.gives.kept f.given f.kept) g.kept;
+}
+
+pub gives_nothing : (a b : Stream) (items : List Item) → Gives a b [] → GivesTo a b items items
+gives_nothing a b items g = record { given = []; after_is = sym (append-nil items); gives = g; kept = All-nil (IsKept b) }
+
 -- nothing, then a match, then its first item if it has one
 pub gives_on : (a b c d : Stream) (item : Option Item) (more : List Item) → is_some item ≡ false → Gives a b (listed item) → Gives b c [] → Gives c d more → Gives a d more
 gives_on a b c d None more none f g h = gives_then a b d [] more f (gives_then b c d [] more g h)
@@ -145,6 +157,39 @@ bytes_text table bytes start c read state last ended item at len parts kept at_i
     sym in_kept ∙ ap (λ (n : ℕ). slice_range (take start bytes) at (at + n)) len_is
     ∙ kept_text (stream_of table bytes start c ended) item text rest at kept (omega (arith, long, front)) fed (omega (arith, at_is, first, front, long))
 
+-- ---- further on
+--  the scanner is some bytes further on, of those that are held
+pub fed_further : (table : Table) (bytes : List ℕ) (start : ℕ) (c new : Cursor) (ended : Bool) (n : ℕ) (text rest : List ℕ) → start ≤ length bytes → start ≤ c.place.offset → new.place.offset ≡ c.place.offset + n → n ≤ length (drop start bytes) →
+    new.place.offset ≤ length text → IsFedOf (stream_of table bytes start c ended) text rest → IsFedOf (stream_of table bytes (start + n) new ended) text rest
+fed_further table bytes start c new ended n text rest start_within front offset inside within fed =
+    let kept_len : length (take start bytes) ≡ start = omega (arith, length-take start bytes, start_within) in
+    let next_len : length (take (start + n) bytes) ≡ start + n = omega (arith, length-take (start + n) bytes, length-drop start bytes, inside, start_within) in
+    let base : ℕ = c.place.offset - length (take start bytes) in
+    let here : take n (drop c.place.offset text) ≡ take n (drop start bytes) = ap (λ (w : List ℕ). take n w) fed.held ∙ take-append-le n (drop start bytes) rest inside in
+    let from : new.place.offset - length (take (start + n) bytes) ≡ base = omega (arith, kept_len, next_len, offset, front) in
+    let count : new.place.offset - base ≡ c.place.offset - base + n = omega (arith, offset) in
+    let at : base + (c.place.offset - base) ≡ c.place.offset = omega arith in
+    record {
+      within = within;
+      held = ap (λ (k : ℕ). drop k text) offset ∙ sym (drop_further text c.place.offset n) ∙ ap (λ (w : List ℕ). drop n w) fed.held ∙ drop-append-le n (drop start bytes) rest inside
+          ∙ ap (λ (w : List ℕ). w ++ rest) (drop_further bytes start n);
+      kept = ap (λ (a : ℕ). slice_range text a new.place.offset) from ∙ ap (λ (k : ℕ). take k (drop base text)) count ∙ take-add (c.place.offset - base) n (drop base text)
+          ∙ ap₂ (λ (xs ys : List ℕ). xs ++ ys) fed.kept (ap (λ (w : List ℕ). take n w) (drop_further text base (c.place.offset - base) ∙ ap (λ (k : ℕ). drop k text) at) ∙ here)
+          ∙ sym (take-add start n bytes);
+      end = fed.end;
+    }
+
+-- the bytes of an item that were kept still are
+pub kept_further : (table : Table) (bytes : List ℕ) (start : ℕ) (c new : Cursor) (ended : Bool) (n : ℕ) (item : Item) → start ≤ length bytes → new.place.offset ≡ c.place.offset + n → n ≤ length (drop start bytes) →
+    IsKept (stream_of table bytes start c ended) item → IsKept (stream_of table bytes (start + n) new ended) item
+kept_further table bytes start c new ended n item start_within offset inside k =
+    let kept_len : length (take start bytes) ≡ start = omega (arith, length-take start bytes, start_within) in
+    let next_len : length (take (start + n) bytes) ≡ start + n = omega (arith, length-take (start + n) bytes, length-drop start bytes, inside, start_within) in
+    record {
+      from = (let from = k.from in omega (arith, offset, kept_len, next_len));
+      to = (let to = k.to in omega (arith, offset));
+    }
+
 -- ---- before the first byte
 pub first_parts : (table : Table) (place : Place) (read state : ℕ) (last : Option (ℕ × ℕ)) → IsTable table → place ≡ first_place → IsWalked table place [] read state last →
     AreParts table [] 0 (record { found = record { rule = None; start = 0; len = 0 }; line = 1; done = 1; place = place }) read state last
@@ -168,23 +213,6 @@ first_parts table place read state last is first walk =
     }
 
 -- ---- the next match
---  the same place, and the walk further on
-pub with_walk : (table : Table) (bytes : List ℕ) (start : ℕ) (c : Cursor) (read state read_new state_new : ℕ) (last last_new : Option (ℕ × ℕ)) → AreParts table bytes start c read state last →
-    IsWalked table c.place (drop start bytes) read_new state_new last_new → AreParts table bytes start c read_new state_new last_new
-with_walk table bytes start c read state read_new state_new last last_new parts walk = record {
-  is_table = parts.is_table;
-  within = parts.within;
-  found = parts.found;
-  front = parts.front;
-  behind = parts.behind;
-  known = parts.known;
-  line_some = parts.line_some;
-  line_few = parts.line_few;
-  rule = parts.rule;
-  few = parts.few;
-  walk = walk;
-}
-
 module _ (table : Table) (bytes : List ℕ) (start : ℕ) (c : Cursor) (read state : ℕ) (last : Option (ℕ × ℕ)) (ended : Bool) (m : Match) (next : Place)
     (parts : AreParts table bytes start c read state last) (due : items_of_steps (steps_left table c) c.line c.found.start c.found.len ≡ []) (goes : GoesOnBy table c.place (drop start bytes) ended m next) where
   abbrev cursor : Cursor
@@ -193,34 +221,10 @@ module _ (table : Table) (bytes : List ℕ) (start : ℕ) (c : Cursor) (read sta
   held_next : drop m.len (drop start bytes) ≡ drop (start + m.len) bytes
   held_next = drop_further bytes start m.len
 
-  kept_next : take (start + m.len) bytes ≡ take start bytes ++ take m.len (drop start bytes)
-  kept_next = take-add start m.len bytes
-
-  kept_len : length (take start bytes) ≡ start
-  kept_len = (let within = parts.within in omega (arith, length-take start bytes))
-
-  kept_next_len : length (take (start + m.len) bytes) ≡ start + m.len
-  kept_next_len = omega (arith, length-take (start + m.len) bytes, length-drop start bytes, goes.within, parts.within)
-
   fed_next : (text rest : List ℕ) → IsFedOf (stream_of table bytes start c ended) text rest → IsFedOf (stream_of table bytes (start + m.len) cursor ended) text rest
   fed_next text rest fed =
       let there = goes.goes_on text rest fed.within fed.held fed.end in
-      let offset : next.offset ≡ c.place.offset + m.len = goes.offset in
-      let front : start ≤ c.place.offset = parts.front in
-      let here : take m.len (drop c.place.offset text) ≡ take m.len (drop start bytes) = ap (λ (w : List ℕ). take m.len w) fed.held ∙ take-append-le m.len (drop start bytes) rest goes.within in
-      let from : next.offset - length (take (start + m.len) bytes) ≡ c.place.offset - length (take start bytes) = omega (arith, kept_len, kept_next_len, offset) in
-      let base : ℕ = c.place.offset - length (take start bytes) in
-      let count : next.offset - base ≡ c.place.offset - base + m.len = omega (arith, offset) in
-      let at : base + (c.place.offset - base) ≡ c.place.offset = omega arith in
-      record {
-        within = there.within;
-        held = ap (λ (n : ℕ). drop n text) offset ∙ sym (drop_further text c.place.offset m.len) ∙ ap (λ (w : List ℕ). drop m.len w) fed.held ∙ drop-append-le m.len (drop start bytes) rest goes.within
-            ∙ ap (λ (w : List ℕ). w ++ rest) held_next;
-        kept = ap (λ (a : ℕ). slice_range text a next.offset) from ∙ ap (λ (n : ℕ). take n (drop base text)) count ∙ take-add (c.place.offset - base) m.len (drop base text)
-            ∙ ap₂ (λ (xs ys : List ℕ). xs ++ ys) fed.kept (ap (λ (w : List ℕ). take m.len w) (drop_further text base (c.place.offset - base) ∙ ap (λ (n : ℕ). drop n text) at) ∙ here)
-            ∙ sym kept_next;
-        end = fed.end;
-      }
+      fed_further table bytes start c cursor ended m.len text rest parts.within parts.front goes.offset goes.within there.within fed
 
   pub gives_match : Gives (stream_of table bytes start c ended) (stream_of table bytes (start + m.len) cursor ended) []
   gives_match = record {
@@ -228,10 +232,7 @@ module _ (table : Table) (bytes : List ℕ) (start : ℕ) (c : Cursor) (read sta
     end = refl;
     fed = fed_next;
     items = λ text rest fed. ap (λ (xs : List Item). xs ++ items_after table text c.place) due ∙ (goes.goes_on text rest fed.within fed.held fed.end).items;
-    kept = λ item k. record {
-      from = (let from = k.from in omega (arith, goes.offset, kept_len, kept_next_len));
-      to = (let to = k.to in omega (arith, goes.offset));
-    };
+    kept = λ item k. kept_further table bytes start c cursor ended m.len item parts.within goes.offset goes.within k;
   }
 
   pub parts_next : (read_new state_new : ℕ) (last_new : Option (ℕ × ℕ)) → IsWalked table next (drop (start + m.len) bytes) read_new state_new last_new → AreParts table bytes (start + m.len) cursor read_new state_new last_new

@@ -1,9 +1,10 @@
 -- A scanner that is fed a text in blocks: the items that are left, in each text that begins with what was fed.
-use Rattle.std.specs.Prelude.{◌≡◌, ℕ, ◌+◌, ◌-◌, ◌^◌, ◌<◌, ◌≤◌, ◌⊎◌, All, Bool, false, IsTrue, List, [], ◌++◌, Option, Some, drop, length, slice_range, take}
+use Rattle.std.specs.Prelude.{◌≡◌, ℕ, ◌+◌, ◌-◌, ◌^◌, ◌<◌, ◌≤◌, ◌⊎◌, All, Bool, false, IsTrue, List, [], ◌++◌, Option, Some, None, drop, length, slice_range, take}
 use Rattle.std.specs.Option.{ForSome}
 use Rattle.lx_automaton.specs.Automata.{Machine, start_of, state_after, state_count, target_of}
 use Rattle.lx_tables.specs.Model.{IsTable, Table}
 use Rattle.lx_scan.specs.declared.cursor.Cursor.{Cursor}
+use Rattle.lx_scan.specs.declared.ends.End.{End}
 use Rattle.lx_scan.specs.declared.item.Item.{Item}
 use Rattle.lx_scan.specs.declared.memory.ScanMemory.{ScanMemory}
 use Rattle.lx_scan.specs.declared.place.Match.{Match}
@@ -102,6 +103,10 @@ pub record IsOver (s : Stream) : Type 0 where
   pub none_left : (text : List ℕ) → IsTrue s.has_ended → IsFedOf s text [] → left_in s text ≡ []
 
 -- ---- within the scanner
+--  the end of a match in a part of a text, as one in the text: further on by this number of bytes and of lines
+abbrev pub shift_end : ℕ → ℕ → End → End
+shift_end bytes lines e = record { code = e.code; offset = bytes + e.offset; line = lines + e.line }
+
 --  A walk from a place over the bytes that are held: this number of them was read, which led to a state, and this rule was accepted last.
 pub record IsWalked (table : Table) (place : Place) (held : List ℕ) (read state : ℕ) (last : Option (ℕ × ℕ)) : Type 0 where
   pub within : read ≤ length held
@@ -138,6 +143,14 @@ pub record GoesOnBy (table : Table) (place : Place) (held : List ℕ) (has_ended
   pub line_some : 1 ≤ next.line
   pub line_few : next.line ≤ next.offset + 1
   pub goes_on : (text rest : List ℕ) → place.offset ≤ length text → drop place.offset text ≡ held ++ rest → (IsTrue has_ended → rest ≡ []) → GoesOn table text place m next
+
+-- a cursor at this place, with no match
+pub record IsAfter (c : Cursor) (place : Place) : Type 0 where
+  pub place_is : c.place ≡ place
+  pub start : c.found.start ≡ place.offset
+  pub len : c.found.len ≡ 0
+  pub rule : c.found.rule ≡ None
+  pub done : 1 ≤ c.done
 
 -- the scanner by its parts: the bytes in memory, the number of them up to the end of the last match, and the cursor after that match
 abbrev pub stream_of : Table → List ℕ → ℕ → Cursor → Bool → Stream

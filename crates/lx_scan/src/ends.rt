@@ -1,6 +1,6 @@
 //! Finds the ends of matches by the joined table: one look-up a byte, and no jump that depends on the text except where a run stops.
 
-ghost use Rattle.std.specs.Prelude.{if◌then◌else◌, ◌≡◌, ◌<◌, ◌≤◌, ◌+◌, ℕ, length, nat_eq, nat_le, slice_index, take};
+ghost use Rattle.std.specs.Prelude.{if◌then◌else◌, ◌≡◌, ◌<◌, ◌≤◌, ◌+◌, ◌++◌, ℕ, List, length, nat_eq, nat_le, slice_index, take};
 ghost use Rattle.lx_tables.specs.Joined.{IsJoined, transition_at};
 ghost use Rattle.lx_tables.specs.Model.{IsTable};
 ghost use Rattle.lx_scan.specs.Ends.{IsPlace, LeadTo, place_behind};
@@ -62,7 +62,7 @@ fn ending(code: usize) -> usize
 }
 
 /// Finds the ends of the matches from a place on, at most `most`, up to the first one that the joined table doesn't determine. Each byte writes an
-/// end after the last one, which counts only if a match has ended.
+/// end after the last one, which counts only if a match has ended. They are the same, whatever bytes follow the text.
 #[inline(never)]
 pub(crate) fn find_ends(
     tables: &Tables,
@@ -80,8 +80,9 @@ pub(crate) fn find_ends(
     requires room { most ≤ length ends.old }
     ensures count { result.count ≤ most }
     ensures within { result.count ≤ length ends.new }
-    ensures ends { 0 < result.count → LeadTo tables.now text.now place (take result.count ends.new)
-        (place_behind text.now place (take result.count ends.new) result.condition) }
+    ensures ends { 0 < result.count → (rest : List ℕ) → LeadTo tables.now (text.now ++ rest) place
+        (take result.count ends.new)
+        (place_behind (text.now ++ rest) place (take result.count ends.new) result.condition) }
 {
     let columns = joined.columns.as_slice();
     let entries = joined.entries.as_slice();

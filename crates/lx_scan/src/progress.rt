@@ -1,16 +1,17 @@
 //! The progress of a scanner in a text that arrives in blocks.
 
-ghost use Rattle.std.specs.Prelude.{◌≡◌, ◌<◌, ◌≤◌, [], None, true, false, IfNone, IfSome, OnOk, drop, length};
+ghost use Rattle.std.specs.Prelude.{◌≡◌, ◌<◌, ◌≤◌, ◌+◌, ◌-◌, ◌^◌, ℕ, List, [], None, true, false, IfNone, IfSome, OnOk, drop, length};
 ghost use Rattle.lx_scan.specs.Cursors.{listed};
-ghost use Rattle.lx_scan.specs.Streams.{Gives, GivesTo, IsDrained, IsKept, IsOpenMemory, IsProgress, IsSilentSince, IsStopped, IsWalked, first_stream, stream_at};
+ghost use Rattle.lx_scan.specs.Streams.{Gives, GivesTo, IsAfter, IsDrained, IsKept, IsOpenMemory, IsProgress, IsSilentSince, IsStopped, IsWalked, first_stream, stream_at};
 
-use crate::cursor::Cursor;
+use crate::cursor::{Cursor, steps_of_match};
+use crate::ends::find_ends;
 use crate::item::Item;
 use crate::list::ItemList;
 use crate::longest::{LONG, accept_at};
 use crate::memory::ScanMemory;
 use crate::place::{Match, Place};
-use crate::walk::{Walk, decide, has_step};
+use crate::walk::{Walk, decide, has_step, shift_ends};
 use lx_tables::Tables;
 use lx_tables::well_formed::tables_are_well_formed;
 use std::alloc::AllocError;
@@ -189,6 +190,102 @@ impl Progress {
         item
     }
 
+    // Returns the progress after the ends of some matches, the last of which is at this place.
+    fn moved_to(&self, tables: &Tables, place: Place) -> Progress
+        requires known { place.condition < length tables.now.machine.starts }
+        requires further { self.now.cursor.place.offset ≤ place.offset }
+        requires room { self.now.start + (place.offset - self.now.cursor.place.offset) < 2 ^ 64 }
+        ensures start { result.start
+            ≡ self.now.start + (place.offset - self.now.cursor.place.offset) }
+        ensures cursor { IsAfter result.cursor place }
+        ensures walked { (held : List ℕ) → IsWalked tables.now place held result.walk.read
+            result.walk.state.0 result.walk.found.last }
+        ensures silent { (held : List ℕ) → IsSilentSince tables.now.machine held result.walk.read
+            result.walk.state.0 result.walk.found.since result.walk.found.state.0 }
+        ensures ended { result.has_ended ≡ self.now.has_ended }
+    {
+        Progress {
+            start: self.start + (place.offset - self.cursor.place.offset),
+            cursor: Cursor {
+                found: Match {
+                    rule: None,
+                    start: place.offset,
+                    len: 0,
+                },
+                line: place.line,
+                done: 1,
+                place,
+            },
+            walk: Walk::begin(tables, place),
+            has_ended: self.has_ended,
+        }
+    }
+
+    // Returns true if a run over the joined table may begin: between two matches, and after the byte before which the last one stopped.
+    fn may_run(&self, tables: &Tables, bytes: &[u8], memory: &ScanMemory) -> bool
+        requires progress { IsProgress tables.now bytes.now self.now }
+        ensures none_due { result ≡ true → (stream_at tables.now bytes.now self.now).due ≡ [] }
+        ensures more { result ≡ true → self.now.start < length bytes.now }
+    {
+        self.walk.read == 0
+            && self.start >= memory.stop
+            && self.start < bytes.len()
+            && self.cursor.done >= steps_of_match(tables, self.cursor.found).len()
+    }
+
+    // Appends the items of the matches that the joined table determines, until the list has `most`.
+    fn run_on(
+        &mut self,
+        tables: &Tables,
+        bytes: &[u8],
+        memory: &mut ScanMemory,
+        most: usize,
+        items: &mut ItemList,
+    ) -> Result<(), AllocError>
+        requires progress { IsProgress tables.now bytes.now self.old }
+        requires memory { IsOpenMemory tables.now bytes.now self.old.has_ended memory.old }
+        requires few { length items.old ≤ most }
+        ensures progress { IsProgress tables.now bytes.now self.new }
+        ensures memory { IsOpenMemory tables.now bytes.now self.old.has_ended memory.new }
+        ensures gives { OnOk result (GivesTo (stream_at tables.now bytes.now self.old)
+            (stream_at tables.now bytes.now self.new) items.old items.new) }
+        ensures most { OnOk result (length items.new ≤ most) }
+    {
+        let Some(joined) = tables.joined_table() else {
+            return Ok(());
+        };
+        if !self.may_run(tables, bytes, memory) {
+            return Ok(());
+        }
+        let at = self.cursor.place;
+        let held = &bytes[self.start..];
+        let from = Place {
+            offset: 0,
+            condition: at.condition,
+            at_line_begin: at.at_line_begin,
+            line: 1,
+        };
+        let room = memory.ends.len().min(most - items.len());
+        let run = find_ends(tables, joined, held, from, room, &mut memory.ends);
+        memory.stop = self.start.saturating_add(run.stop);
+        if run.count == 0 {
+            return Ok(());
+        }
+        let ends = &mut memory.ends[..run.count];
+        if !shift_ends(ends, at.offset, at.line - 1) {
+            return Ok(());
+        }
+        let (offset, line) = items.push_ends(tables, &joined.labels, ends, at)?;
+        let place = Place {
+            offset,
+            condition: run.condition,
+            at_line_begin: held[offset - at.offset - 1] == b'\n',
+            line,
+        };
+        *self = self.moved_to(tables, place);
+        Ok(())
+    }
+
     /// Appends the next items to a list until it has `most`, or all that are decided.
     pub(crate) fn next_items(
         &mut self,
@@ -210,6 +307,10 @@ impl Progress {
             → IsDrained (stream_at tables.now bytes.now self.new)) }
     {
         'further: while items.len() < most {
+            self.run_on(tables, bytes, memory, most, items)?;
+            if items.len() == most {
+                return Ok(());
+            }
             let Some(item) = self.next_item(tables, bytes, memory) else {
                 return Ok(());
             };

@@ -1,13 +1,14 @@
 //! Walks over a match in progress, of a text that arrives in blocks.
 
-ghost use Rattle.std.specs.Prelude.{◌≡◌, ◌<◌, ◌≤◌, ◌+◌, ◌^◌, ℕ, List, None, Some, false, true, length};
+ghost use Rattle.std.specs.Prelude.{◌≡◌, ◌<◌, ◌≤◌, ◌+◌, ◌^◌, ℕ, List, None, Some, false, true, length, map};
 ghost use Rattle.std.specs.Option.{ForSome, option_map};
 ghost use Rattle.lx_automaton.specs.Automata.{state_count, target_of};
 ghost use Rattle.lx_tables.specs.Model.{IsTable};
 ghost use Rattle.lx_scan.specs.Answers.{token_len};
-ghost use Rattle.lx_scan.specs.Streams.{GoesOnBy, IsDecided, IsSilentSince, IsWalked};
+ghost use Rattle.lx_scan.specs.Streams.{GoesOnBy, IsDecided, IsSilentSince, IsWalked, shift_end};
 
 use crate::choice::len_of_token;
+use crate::ends::End;
 use crate::longest::LongestMatch;
 use crate::place::{Match, Place};
 use crate::scanner::{match_of, place_after};
@@ -95,4 +96,23 @@ pub(crate) fn decide(
     let _ = has_ended;
     let found = match_of(place.offset, chosen(tables, last));
     (found, place_after(tables, held, place, found))
+}
+
+/// Moves the ends of matches on by a number of bytes and of lines. Returns false if a number doesn't fit: then they mean nothing.
+pub(crate) fn shift_ends(ends: &mut [End], bytes: usize, lines: u64) -> bool
+    ensures moved { result ≡ true → ends.new ≡ map (shift_end bytes lines) ends.old }
+    ensures len { length ends.new ≡ length ends.old }
+{
+    for i in 0..ends.len() {
+        let end = ends[i];
+        if end.offset > usize::MAX - bytes || end.line > u64::MAX - lines {
+            return false;
+        }
+        ends[i] = End {
+            code: end.code,
+            offset: bytes + end.offset,
+            line: lines + end.line,
+        };
+    }
+    true
 }
