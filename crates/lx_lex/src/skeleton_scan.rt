@@ -155,9 +155,11 @@ YY_DECL
 %if states
     unsigned int yy_current_state; /* the state where the walk has come to a NUL */
     unsigned char yy_c;
-    char *yy_bp, *yy_cp; /* the match that is looked for, from yy_bp to before yy_cp */
-    char *yy_last; /* the last place where a rule matched before the walk went on */
-    int yy_last_rule;
+    char *yy_cp;
+    /* The match that is looked for, from here to before yy_cp; and the last place where a rule matched before the walk went on, with that rule.
+       They are volatile, since compilers take long, and print more code, where they keep them in registers through all states. */
+    char *volatile yy_bp, *volatile yy_last = NULL;
+    volatile int yy_last_rule;
 %else
     unsigned int yy_current_state, yy_next_state;
     char *yy_bp, *yy_cp; /* the match that is looked for, from yy_bp to before yy_cp */

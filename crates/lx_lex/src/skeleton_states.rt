@@ -121,7 +121,6 @@ pub(crate) const STATE_BEGIN: &[u8] = br#"    for (;;) {
         *@gyy_c_buf_p = @gyy_hold_char;
         yy_bp = yy_cp = @gyy_c_buf_p;
     yy_next_match: yy_unused;
-        yy_last = yy_bp;
         yy_last_rule = 0;
 %if bol
         switch (@gyy_start - 1 + (YY_AT_BOL() != 0)) {
@@ -156,7 +155,7 @@ pub(crate) const STATE_STOP: &[u8] = br#"
             yy_current_state = yy_nul[yy_current_state] - 1u;
             ++yy_cp;
         } else {
-            size_t yy_kept = (size_t)(yy_last - yy_bp);
+            size_t yy_kept = yy_last_rule != 0 ? (size_t)(yy_last - yy_bp) : 0;
 %if debug
             if (yy_flex_debug)
                 fprintf(stderr, "--(end of buffer or a NUL)\n");
