@@ -118,3 +118,13 @@ fn a_match_may_lie_in_several_blocks(rt: HostRuntime) {
     scanner.all_items(&tables, &mut items).expect(&rt, "memory");
     holds(&rt, items.len() == 1, "the last one");
 }
+
+#[test]
+fn a_text_of_which_each_byte_reads_far_in_vain_takes_no_square(rt: HostRuntime) {
+    let tables = tables_by(&rt, BACK_UP);
+    let mut text = Vec::new(rt.alloc());
+    text.resize(1_000_000, b'a').expect(&rt, "memory");
+    let blocks = blocks_of(&rt, &text, 65_536);
+    let items = scan_blocks(rt.alloc(), &tables, &blocks).expect(&rt, "memory");
+    holds(&rt, items.len() == 1_000_000, "items");
+}
