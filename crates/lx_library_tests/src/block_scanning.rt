@@ -9,6 +9,9 @@ use std::process::Abort;
 /// Sizes of blocks.
 const SIZES: &[usize] = &[1, 2, 3, 7, 64];
 
+/// Number of items that is more than any text here has.
+const MOST: usize = 1000;
+
 /// Rules of which one reads far in vain: `a` is decided once no `b` can follow.
 const BACK_UP: &str = "%%\na return A;\na*b return B;\n";
 
@@ -19,11 +22,33 @@ const ANCHORS: &str =
 /// Returns a text in blocks of a size.
 fn blocks_of<R: Abort + AllocGlobal>(rt: &R, text: &[u8], size: usize) -> Vec<Vec<u8>> {
     let mut blocks = Vec::new(rt.alloc());
-    for part in text.chunks(size) {
+    for part in text.chunks(size.max(1)) {
         let block = Vec::from_slice(rt.alloc(), part).expect(rt, "memory");
         blocks.push(block).expect(rt, "memory");
     }
     blocks
+}
+
+/// Asserts that a text has its items in two blocks, if they are appended to a list.
+fn cut_in_two<R: Abort + AllocGlobal>(rt: &R, tables: &Tables, text: &[u8]) {
+    let whole = scan(rt.alloc(), tables, text).expect(rt, "memory");
+    let (front, back) = text.split_at(text.len() / 2);
+    let mut scanner = BlockScanner::new(rt.alloc(), tables);
+    let mut items = ItemList::new(rt.alloc());
+    scanner.feed(front).expect(rt, "memory");
+    scanner
+        .next_items(tables, MOST, &mut items)
+        .expect(rt, "memory");
+    scanner.feed(back).expect(rt, "memory");
+    scanner
+        .next_items(tables, MOST, &mut items)
+        .expect(rt, "memory");
+    scanner.end();
+    scanner
+        .next_items(tables, MOST, &mut items)
+        .expect(rt, "memory");
+    let found = items.to_vec().expect(rt, "memory");
+    holds(rt, found.as_slice() == whole.as_slice(), "two blocks");
 }
 
 /// Asserts that a text has its items in blocks of every size.
@@ -34,6 +59,7 @@ fn cut_anyhow<R: Abort + AllocGlobal>(rt: &R, tables: &Tables, text: &[u8]) {
         let items = scan_blocks(rt.alloc(), tables, &blocks).expect(rt, "memory");
         holds(rt, items.as_slice() == whole.as_slice(), "items");
     }
+    cut_in_two(rt, tables, text);
 }
 
 /// Asserts the number of items that a text decides, which begin each text that begins with it.
@@ -70,14 +96,6 @@ fn an_item_is_given_once_no_byte_could_change_it(rt: HostRuntime) {
     decides(&rt, &tables, b"x foo\n", 2);
 }
 
-/// Asserts an item and its bytes.
-fn gives(rt: &impl Abort, scanner: &mut BlockScanner, tables: &Tables, text: &[u8]) {
-    match scanner.next_item(tables) {
-        Some(item) => holds(rt, scanner.text(item) == text, "text"),
-        None => holds(rt, false, "no item"),
-    }
-}
-
 #[test]
 fn a_match_may_lie_in_several_blocks(rt: HostRuntime) {
     let tables = tables_by(&rt, BACK_UP);
@@ -85,7 +103,11 @@ fn a_match_may_lie_in_several_blocks(rt: HostRuntime) {
     scanner.feed(b"aa").expect(&rt, "memory");
     holds(&rt, scanner.next_item(&tables).is_none(), "undecided");
     scanner.feed(b"aab").expect(&rt, "memory");
-    gives(&rt, &mut scanner, &tables, b"aaaab");
+    let wanted: &[u8] = b"aaaab";
+    match scanner.next_item(&tables) {
+        Some(item) => holds(&rt, scanner.text(item) == wanted, "text"),
+        None => holds(&rt, false, "no item"),
+    }
     scanner.feed(b"a").expect(&rt, "memory");
     holds(&rt, !scanner.has_ended(), "goes on");
     scanner.end();
@@ -95,4 +117,14 @@ fn a_match_may_lie_in_several_blocks(rt: HostRuntime) {
         .expect(&rt, "memory");
     scanner.all_items(&tables, &mut items).expect(&rt, "memory");
     holds(&rt, items.len() == 1, "the last one");
+}
+
+#[test]
+fn a_text_of_which_each_byte_reads_far_in_vain_takes_no_square(rt: HostRuntime) {
+    let tables = tables_by(&rt, BACK_UP);
+    let mut text = Vec::new(rt.alloc());
+    text.resize(1_000_000, b'a').expect(&rt, "memory");
+    let blocks = blocks_of(&rt, &text, 65_536);
+    let items = scan_blocks(rt.alloc(), &tables, &blocks).expect(&rt, "memory");
+    holds(&rt, items.len() == 1_000_000, "items");
 }

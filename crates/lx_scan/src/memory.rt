@@ -150,12 +150,13 @@ impl ScanMemory {
         }
     }
 
-    /// Forgets all, and keeps its memory.
+    /// Forgets all, also where the last run stopped, and keeps its memory.
     pub(crate) fn clear(&mut self)
         ensures { (table : Table) (text : List ℕ) → IsMemoryOf table text self.new }
     {
         self.marks.clear();
         self.others.clear();
+        self.stop = 0;
     }
 
     /// Makes room for the numbers of a text that has grown, unless an allocation fails.

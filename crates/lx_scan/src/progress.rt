@@ -267,7 +267,9 @@ impl Progress {
         };
         let room = memory.ends.len().min(most - items.len());
         let run = find_ends(tables, joined, held, from, room, &mut memory.ends);
-        memory.stop = self.start.saturating_add(run.stop);
+        // a run that stopped for lack of room hasn't stopped at a byte
+        let stop = if run.count < room { run.stop } else { 0 };
+        memory.stop = self.start.saturating_add(stop);
         if run.count == 0 {
             return Ok(());
         }
