@@ -52,6 +52,9 @@ SCANNERS = [
     ("rules without an action", "%option noyywrap yylineno\n%%\n[ \\n]+ ;\n#.* |\n\\/ { /* nothing */ }\n^a printf(\"^%d\", yylineno);\na printf(\"a%d\", yylineno);\n" + MAIN,
      b"a a\n a # x\na/a", b"^1a1a2^3a3"),
     ("rules without an action, and a hook", "%{\n#define YY_USER_ACTION printf(\"%d\", (int)yyleng);\n%}\n%option noyywrap\n%%\n[ \\n]+ ;\na printf(\"a\");\n" + MAIN, b"a  a\n", b"1a21a1"),
+    ("code after a rule with the action of one that does nothing", "%option noyywrap\n%%\na |\n%{\n    printf(\"between\");\n%}\nb ;\nc printf(\"C\");\n" + MAIN, b"abc", b"betweenC"),
+    ("a hook that is defined among the rules", "%option noyywrap\n%%\n%{\n#undef YY_USER_ACTION\n#define YY_USER_ACTION printf(\"[%s]\", yytext);\n%}\na ;\nb printf(\"B\");\n" + MAIN,
+     b"abab", b"[a][b]B[a][b]B"),
     ("code between rules", "%option noyywrap\n%%\na |\n  /* a comment */\nb printf(\"b\");\n<<EOF>> { printf(\"e\"); yyterminate(); }\n" + MAIN, b"ab", b"bbe"),
     ("a large interval in trailing context", "%option noyywrap nowarn\n%%\nx+/x{300} printf(\"[%d]\", (int)yyleng);\n" + MAIN, b"x" * 305, b"[5]" + b"x" * 300),
 ]

@@ -208,12 +208,47 @@ impl FileOutline<'_> {
         }
     }
 
-    /// Returns true if the rule at this place, counted from 0, has an action that does nothing.
-    pub(crate) fn is_idle(&self, place: usize) -> bool {
+    /// Returns a flag for each number of rules: true if code of the file follows that many.
+    pub(crate) fn code_follows(&self, alloc: Global) -> Result<Vec<bool>, AllocError> {
+        let mut follows = Vec::new(alloc);
+        for _ in self.rules.as_slice() {
+            follows.push(false)?;
+        }
+        follows.push(false)?;
+        for part in self.code.as_slice() {
+            if part.rules < follows.len() {
+                follows[part.rules] = true;
+            }
+        }
+        Ok(follows)
+    }
+
+    /// Returns true if code among the rules may define what is done at each match: if it has a directive of the preprocessor.
+    pub(crate) fn may_define_hooks(&self) -> bool {
+        for code in self.first_code.as_slice() {
+            if code.of(self.text).contains(&b'#') {
+                return true;
+            }
+        }
+        for part in self.code.as_slice() {
+            if part.code.of(self.text).contains(&b'#') {
+                return true;
+            }
+        }
+        false
+    }
+
+    /// Returns true if the rule at this place, counted from 0, has an action that does nothing. An action `|` goes on with the code of the file that
+    /// follows its rule, as these flags say.
+    pub(crate) fn is_idle(&self, place: usize, code_follows: &[bool]) -> bool {
         for number in place..self.rules.len() {
             let rule = &self.rules[number];
             match rule.action {
-                RuleAction::Bar => {}
+                RuleAction::Bar => {
+                    if code_follows.get(number + 1).copied().unwrap_or(true) {
+                        return false;
+                    }
+                }
                 RuleAction::Code(code) => {
                     return rule.pattern.is_some() && is_idle(code.of(self.text));
                 }

@@ -188,6 +188,8 @@ pub(crate) fn push_matches(
         tables: cut_tables,
         condition: 1,
     };
+    let code_follows = outline.code_follows(alloc)?;
+    let may_skip = !outline.may_define_hooks();
     let mut number: u64 = 0;
     for index in 0..outline.rules.len() {
         let Some(pattern) = outline.rules[index].pattern else {
@@ -198,7 +200,8 @@ pub(crate) fn push_matches(
         push_number_then(&mut output.text, number, b":\n")?;
         push_cut(output, environment, pattern.cut, &mut place)?;
         output.end_line()?;
-        push_match(output, environment, number, pattern, outline.is_idle(index))?;
+        let is_idle = may_skip && outline.is_idle(index, code_follows.as_slice());
+        push_match(output, environment, number, pattern, is_idle)?;
         output.push(b"goto yy_do_")?;
         push_number_then(&mut output.text, number, b";\n")?;
     }
