@@ -9,8 +9,7 @@ use crate::causes::{
 /// Returns the phrase of a cause. It is empty if the text of `explain` says all.
 pub(crate) fn phrase_of(cause: Cause) -> &'static str {
     match cause {
-        Cause::NoRules(RulesCause::IndentedPercent) =>
-            "line # has %% after a blank, so it is code",
+        Cause::NoRules(RulesCause::IndentedPercent) => "line # has %% after a blank, so it is code",
         Cause::NoRules(RulesCause::RulesAsDefinitions) =>
             "line # looks like a rule, and there is no line %% before it",
         Cause::NotClosed(OpenCause::HiddenBrace) => "the } of line # is in a comment or in quotes",
