@@ -1,7 +1,7 @@
 """Runs the examples of the pages in Markdown, and compares the pages with the program and the sources.
 
 In an indented block a line that begins with `$ ` is run, and the lines after it are what it prints; another block after a line that ends with a name, as
-`main.c`:, is the file of this name. Besides, the tables of docs/ERRORS.md, the test vectors of docs/TABLES.md, the options of docs/lx.1, the names in
+`main.c`:, is the file of this name. Besides, the causes of docs/ERRORS.md, the test vectors of docs/TABLES.md, the options of docs/lx.1, the names in
 docs/POSIX.md and docs/CONTRACTS.md and the map in docs/ARCHITECTURE.md are compared with what they are about.
 """
 import ast
@@ -17,7 +17,7 @@ DOCS = TOP / "docs"
 PAGES = [TOP / "README.md", TOP / "CONTRIBUTING.md", *sorted(DOCS.glob("*.md"))]
 LIMIT_SECONDS = 120
 NAMED_FILE = re.compile(r"`([\w.]+)`:$")
-TOOLS = ["cc", "make", "cmake", "bison"]
+TOOLS = ["cc", "make", "cmake", "bison", "rustc"]
 
 
 def missing_tools(command):
@@ -35,7 +35,8 @@ class Commands(Case):
         folder = self.make_folder()
         if page.name == "README.md":
             (folder / "lx").symlink_to(support.built())
-            (folder / "examples").symlink_to(TOP / "examples")
+            for name in ("drivers", "examples"):
+                (folder / name).symlink_to(TOP / name)
         return folder
 
     def run_command(self, command, folder):
@@ -63,29 +64,44 @@ class Commands(Case):
 
 
 class Errors(Case):
-    """docs/ERRORS.md, under "Causes": `lx explain` says the same of each cause, and each example is refused with its code, or gives the warning."""
+    """explanations.txt is what `lx explain` says of each cause. docs/ERRORS.md, under "Causes", names the same causes, and has their examples: each is refused
+    with its code, or gives the warning."""
+
+    HEAD = re.compile(r"(\S+) \((\w+)\)$")
 
     def setUp(self):
+        blocks = (TESTS / "explanations.txt").read_text().split("\n\n")
+        self.explanations = {self.HEAD.match(block.partition("\n")[0])[1]: block.rstrip("\n") + "\n" for block in blocks}
         causes = (DOCS / "ERRORS.md").read_text().partition("\n## Causes\n")[2]
         parts = [section.partition("\n") for section in causes.split("\n### ")[1:]]
-        self.rows = [(code, cells) for code, _, table in parts for cells in markdown.table_rows(table) if re.match("[a-z]", cells[0])]
+        self.rows = [(code, *item) for code, _, items in parts for item in re.findall(r"^- (\S+): (.*)", items, re.M)]
+
+    def example_of(self, cause):
+        """Returns the example that an explanation has, or None."""
+        _, begin, example = self.explanations[cause].rstrip("\n").partition("\n    As in: ")
+        return example if begin else None
 
     def test_explanations(self):
         self.assertTrue(self.rows)
-        for code, (cause, words, hint, example) in self.rows:
-            words, hint, example = (markdown.without_code_signs(cell) for cell in (words, hint, example))
-            lines = [f"{cause} ({code})", words, f"To do: {hint}", *([f"As in: {example}"] if example else [])]
-            self.expect(f"lx explain {cause}", lx("explain", cause, text=True).stdout, "\n    ".join(lines) + "\n")
+        heads = [f"{cause} ({code})" for code, cause, _ in self.rows]
+        self.expect("the causes of lx explain", [head for head in lx("explain", text=True).stdout.splitlines() if re.match(r"[a-z-]+ \(", head)], [
+            f"{head}: {self.explanations[head.split()[0]].splitlines()[1].strip()}" for head in heads])
+        for cause, wanted in self.explanations.items():
+            self.expect(f"lx explain {cause}", lx("explain", cause, text=True).stdout, wanted)
 
     def test_examples(self):
-        for code, (cause, _, _, example) in self.rows:
-            if example and code == "warning":
-                ended = lx("check", "-q", "-W", "all", "-", input=text_of(code, cause, example), text=True)
-                self.check(f"{cause}: {example}", ended.returncode == 0 and f" [{cause}]\n" in ended.stdout, f"lx check prints {ended.stdout!r}")
-            elif example:
-                ended = lx("up" if code == "B01" else "gen", "-", input=text_of(code, cause, example), text=True)
+        for code, cause, words in self.rows:
+            example = self.example_of(cause)
+            if example is None:
+                continue
+            self.expect(f"the example of {cause}", markdown.without_code_signs(words), example)
+            if code == "warning":
+                ended = lx("check", "-q", "-W", "all", "-", input=text_of(code, cause, words), text=True)
+                self.check(f"{cause}: {words}", ended.returncode == 0 and f" [{cause}]\n" in ended.stdout, f"lx check prints {ended.stdout!r}")
+            else:
+                ended = lx("up" if code == "B01" else "gen", "-", input=text_of(code, cause, words), text=True)
                 is_refused = ended.returncode == 1 and re.match(rf"lx: {code}\b", ended.stderr) is not None
-                self.check(f"{cause}: {example}", is_refused, f"it ends with {ended.returncode}: {ended.stderr!r}")
+                self.check(f"{cause}: {words}", is_refused, f"it ends with {ended.returncode}: {ended.stderr!r}")
 
 
 def text_of(code, cause, example):
