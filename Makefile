@@ -43,7 +43,7 @@ bench: ## measures listings beside other scanners, threads, and the making of ta
 fmt: ## lays out the sources of every crate
 	for crate in crates/*/; do (cd "$$crate" && rt fmt) || exit 1; done
 
-map: ## writes the table of crates in docs/ARCHITECTURE.md and the chart docs/speed.svg anew
+map: ## writes the list of crates in docs/ARCHITECTURE.md and the chart docs/speed.svg anew
 	docs/map
 	docs/chart
 

@@ -45,10 +45,6 @@ def code_spans(text):
     return [double or single for double, single in CODE.findall(text)]
 
 
-def without_code_signs(text):
-    return CODE.sub(lambda span: span[1] or span[2], text)
-
-
 def links(text):
     """Returns the targets of links that are files."""
     return [target for target in LINK.findall(text) if "://" not in target]

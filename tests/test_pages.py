@@ -1,7 +1,7 @@
 """Runs the examples of the pages in Markdown, and compares the pages with the program and the sources.
 
 In an indented block a line that begins with `$ ` is run, and the lines after it are what it prints; another block after a line that ends with a name, as
-`main.c`:, is the file of this name. Besides, the causes of docs/ERRORS.md, the test vectors of docs/TABLES.md, the options of docs/lx.1, the names in
+`main.c`:, is the file of this name. Besides, the codes of docs/ERRORS.md, the test vectors of docs/TABLES.md, the options of docs/lx.1, the names in
 docs/POSIX.md and docs/CONTRACTS.md and the map in docs/ARCHITECTURE.md are compared with what they are about.
 """
 import ast
@@ -64,52 +64,52 @@ class Commands(Case):
 
 
 class Errors(Case):
-    """explanations.txt is what `lx explain` says of each cause. docs/ERRORS.md, under "Causes", names the same causes, and has their examples: each is refused
-    with its code, or gives the warning."""
+    """explanations.txt has the causes of each code: `lx explain` says the same of each, and each example is refused with its code, or gives the warning.
+    docs/ERRORS.md has the codes."""
 
     HEAD = re.compile(r"(\S+) \((\w+)\)$")
 
     def setUp(self):
-        blocks = (TESTS / "explanations.txt").read_text().split("\n\n")
-        self.explanations = {self.HEAD.match(block.partition("\n")[0])[1]: block.rstrip("\n") + "\n" for block in blocks}
-        causes = (DOCS / "ERRORS.md").read_text().partition("\n## Causes\n")[2]
-        parts = [section.partition("\n") for section in causes.split("\n### ")[1:]]
-        self.rows = [(code, *item) for code, _, items in parts for item in re.findall(r"^- (\S+): (.*)", items, re.M)]
+        blocks = [block.rstrip("\n") + "\n" for block in (TESTS / "explanations.txt").read_text().split("\n\n")]
+        heads = [self.HEAD.match(block.partition("\n")[0]) for block in blocks]
+        self.causes = [(head[2], head[1], block) for head, block in zip(heads, blocks)]
 
-    def example_of(self, cause):
-        """Returns the example that an explanation has, or None."""
-        _, begin, example = self.explanations[cause].rstrip("\n").partition("\n    As in: ")
-        return example if begin else None
+    def lines_of_explain(self, begin):
+        return [line for line in lx("explain", text=True).stdout.splitlines() if re.match(begin, line)]
+
+    def test_codes(self):
+        codes = [line[:3] for line in self.lines_of_explain("[A-Z]")]
+        page = (DOCS / "ERRORS.md").read_text()
+        self.assertTrue(codes)
+        for code in codes:
+            self.check(code, re.search(rf"^\| (`lx: )?{code}\b", page, re.M), "ERRORS.md has no row for it")
 
     def test_explanations(self):
-        self.assertTrue(self.rows)
-        heads = [f"{cause} ({code})" for code, cause, _ in self.rows]
-        self.expect("the causes of lx explain", [head for head in lx("explain", text=True).stdout.splitlines() if re.match(r"[a-z-]+ \(", head)], [
-            f"{head}: {self.explanations[head.split()[0]].splitlines()[1].strip()}" for head in heads])
-        for cause, wanted in self.explanations.items():
+        self.expect("the causes of lx explain", self.lines_of_explain(r"[a-z-]+ \("), [
+            f"{cause} ({code}): {block.splitlines()[1].strip()}" for code, cause, block in self.causes])
+        for _, cause, wanted in self.causes:
             self.expect(f"lx explain {cause}", lx("explain", cause, text=True).stdout, wanted)
 
     def test_examples(self):
-        for code, cause, words in self.rows:
-            example = self.example_of(cause)
-            if example is None:
+        for code, cause, block in self.causes:
+            _, begin, example = block.rstrip("\n").partition("\n    As in: ")
+            if not begin:
                 continue
-            self.expect(f"the example of {cause}", markdown.without_code_signs(words), example)
             if code == "warning":
-                ended = lx("check", "-q", "-W", "all", "-", input=text_of(code, cause, words), text=True)
-                self.check(f"{cause}: {words}", ended.returncode == 0 and f" [{cause}]\n" in ended.stdout, f"lx check prints {ended.stdout!r}")
+                ended = lx("check", "-q", "-W", "all", "-", input=text_of(code, cause, example), text=True)
+                self.check(f"{cause}: {example}", ended.returncode == 0 and f" [{cause}]\n" in ended.stdout, f"lx check prints {ended.stdout!r}")
             else:
-                ended = lx("up" if code == "B01" else "gen", "-", input=text_of(code, cause, words), text=True)
+                ended = lx("up" if code == "B01" else "gen", "-", input=text_of(code, cause, example), text=True)
                 is_refused = ended.returncode == 1 and re.match(rf"lx: {code}\b", ended.stderr) is not None
-                self.check(f"{cause}: {words}", is_refused, f"it ends with {ended.returncode}: {ended.stderr!r}")
+                self.check(f"{cause}: {example}", is_refused, f"it ends with {ended.returncode}: {ended.stderr!r}")
 
 
 def text_of(code, cause, example):
     """Returns the text that an example is short for: a specification, or tables."""
     before, then, after = example.partition(", then ")
-    lines = "\n".join(markdown.code_spans(before)) + "\n"
+    lines = before + "\n"
     if then:
-        return lines + "%%\n" + "\n".join(markdown.code_spans(after)) + "\n"
+        return lines + "%%\n" + after + "\n"
     if code in ("B01", "E02"):
         return lines
     if code in ("E04", "E05") or code == "E03" and "action" not in cause and "brace" not in cause:
@@ -222,6 +222,13 @@ class Posix(Case):
         self.assertTrue(rows)
         for cells in rows:
             self.expect(cells[0], self.missing_in(cells, shown), [])
+
+    def test_calls_of_sections(self):
+        """Each table without contracts of its own has a line before it, with the calls that promise its rules."""
+        for section in markdown.sections(self.PAGE.read_text())[1:]:
+            calls = [name for line in re.findall(r"^Promised by .*", section, re.M) for name in markdown.code_spans(line)]
+            self.check(section.partition("\n")[0], calls or "| Contract |" in section or "| In the standard |" in section, "it names no call")
+            self.expect("calls that aren't there", [name for name in calls if not is_call(name)], [])
 
 
 def is_call(name):
