@@ -34,7 +34,7 @@ typedef struct lx_tables {       /* states are counted from 1, and 0 is none */
 } lx_tables;
 
 typedef struct lx_token {
-    int kind; const char *text;             /* in the caller's buffer, with no NUL behind it */
+    int kind; const char *text;             /* in the caller's buffer, with no NUL after it */
     size_t length, start, line, line_start; /* start: bytes before it; line: from 1; line_start: bytes before that line */
 } lx_token;
 
@@ -63,10 +63,10 @@ static inline int lx__word(lx__reader *r, const char *word, const char *message)
     for (; *word && lx__is_next(r, *word, *word); word++) r->line += *r->at++ == '\n';
     return *word ? lx__refuse(r, message) : 1;
 }
-static inline int lx__number(lx__reader *r, const char *word, const char *message, int most) { /* behind a word, up to `most` */
+static inline int lx__number(lx__reader *r, const char *word, const char *message, int most) { /* after a word, up to `most` */
     int n = 0, digits = 0;
     lx__word(r, word, message);
-    for (; lx__is_next(r, '0', '9') && (n || !digits); digits++, r->at++) { /* no digit stands behind a leading zero */
+    for (; lx__is_next(r, '0', '9') && (n || !digits); digits++, r->at++) { /* no digit follows a leading zero */
         const int digit = *r->at - '0';
         if (digit > most || n > (most - digit) / 10) return lx__refuse(r, "a number is too great");
         n = 10 * n + digit;
@@ -185,7 +185,7 @@ static inline int lx_kind(const lx_tables *t, const char *name) {
     return i < t->kinds ? t->first + i : (int)lx_NO_KIND;
 }
 
-/* ---- Scanning. Where lx_MORE comes, the bytes from s->text + s->at on are handed over again, moved or not, with more behind them. */
+/* ---- Scanning. Where lx_MORE comes, the bytes from s->text + s->at on are handed over again, moved or not, with more after them. */
 static inline void lx_refill(lx_scanner *s, const void *text, size_t size, int is_last) {
     s->before += s->at, s->at = 0, s->text = text ? (const char *)text : "", s->size = size, s->is_last = is_last;
 }
@@ -250,7 +250,7 @@ static inline int lx__match(lx_scanner *s) { /* takes the longest match, and beg
     lx__take(s, length, lines);
     return lx__perform(s, action);
 }
-static inline int lx_next(lx_scanner *s, lx_token *t) { /* the next token, and its kind; behind the end always lx_END */
+static inline int lx_next(lx_scanner *s, lx_token *t) { /* the next token, and its kind; after the end always lx_END */
     int kind = s->pending ? lx__perform(s, s->pending) : (int)lx_END;
     while (kind == lx_END && s->at != s->size) kind = lx__match(s);
     if (kind == lx_END && !s->is_last) kind = lx_MORE;

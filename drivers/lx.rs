@@ -15,7 +15,7 @@
 #![allow(dead_code)]
 use std::{error, fmt};
 
-/// What an item is: of the kind with this place among `Tables::kinds`, or the number that its action returns, or echoed.
+/// The kind of an item: the one with this place among `Tables::kinds`, the number that its action returns, or an echo.
 #[derive(Clone, Copy, Debug, PartialEq, Eq, Hash)]
 pub enum Kind { Name(u32), Number(u32), Echo }
 
@@ -32,19 +32,19 @@ impl fmt::Display for Error {
 }
 impl error::Error for Error {}
 
-/// A step of an action, or its end. Behind the return of a kind that isn't Echo no end is looked for.
+/// A step of an action, or its end. After the return of a kind that isn't Echo no end is looked for.
 #[derive(Clone, Copy)]
 enum Step { Begin(u16), Give(Kind), End }
 
-/// Tables, in which states are counted from 1, and 0 is none. Behind the last one all stand again, for matches in which a newline was: so no byte is
+/// Tables, in which states are counted from 1, and 0 is none. After the last one all come again, for matches in which a newline was: so no byte is
 /// asked whether it is one. `kinds` are the names of the kinds.
 pub struct Tables {
-    /// Where the column of each byte's class begins, and in it for each state the next one. The newline has a column of its own.
+    /// The start of the column of each byte's class, which has the next state for each state. The newline has a column of its own.
     columns: [u32; 256],
     next: Vec<u16>,
     /// For each state the place of its action, or 0; below 0, where the rule ends with `$`. And the kind, where to give it is all, or Echo.
     accepts: Vec<(i32, Kind)>,
-    /// The actions one behind the other; first that of a byte that no rule takes.
+    /// The actions one after the other; first that of a byte that no rule takes.
     steps: Vec<Step>,
     /// For each condition the state in which a match begins, and the one at line begin.
     starts: Vec<[u16; 2]>,
@@ -150,7 +150,7 @@ impl Tables {
         let last = Item { kind: Kind::Echo, text: &text[..0], start: 0, line: 1, column: 1 };
         Scanner { tables: self, size: text.len(), rest: text, line: 1, line_left: text.len(), starts: &self.starts[0], pending: NOTHING, last }
     }
-    /// Walks once more over what was walked, for the last place where a token ends: its action, and what is left behind it.
+    /// Walks once more over what was walked, for the last place where a token ends: its action, and what is left after it.
     #[cold]
     fn look_back<'t>(&self, mut state: usize, rest: &'t [u8], left: usize) -> (i32, &'t [u8]) {
         let (mut action, mut length) = (0, 1);
@@ -170,7 +170,7 @@ struct Lines<'a> { rest: &'a str, number: usize }
 impl<'a> Lines<'a> {
     fn error(&self, cause: &str) -> Error { Error { line: self.number, cause: cause.to_string() } }
     fn refuse<T>(&self, cause: &str) -> Result<T, Error> { Err(self.error(cause)) }
-    /// Takes the next line, which begins with a word: what stands behind the word.
+    /// Takes the next line, which begins with a word, and returns what follows the word.
     fn after(&mut self, word: &str) -> Result<&'a str, Error> {
         self.number += 1;
         let (line, rest) = self.rest.split_once('\n').ok_or_else(|| self.error("the text is cut off"))?;

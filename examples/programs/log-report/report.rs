@@ -1,4 +1,4 @@
-//! How many messages a log has, by level and by who speaks: report TABLES LOG. The tables are those of examples/log.l.
+//! Counts the messages of a log, by level and by who speaks: report TABLES LOG. The tables are those of examples/log.l.
 #[path = "../../../drivers/lx.rs"]
 mod lx;
 
