@@ -6,10 +6,10 @@ from tests.support import TOP, Case
 
 DOCS = TOP / "docs"
 # Lines of a page at most. A page that isn't here is a reference page for users.
-LIMITS = {"README.md": 110, "GUIDE.md": 200, "ARCHITECTURE.md": 200, "CONTRACTS.md": 220, "DECISIONS.md": 200, "INTERNALS.md": 200, "PROOFS.md": 200, "PROVING.md": 200}
-REFERENCE_LINES = 160
-# These need more: tables with a row for each error and construct, whole programs, and test vectors.
-LONGER = {"ERRORS.md": 280, "FLEX.md": 225, "PROGRAMS.md": 265, "TABLES.md": 280}
+LIMITS = {"README.md": 110, "GUIDE.md": 200, "ARCHITECTURE.md": 200, "CONTRACTS.md": 200, "DECISIONS.md": 200, "INTERNALS.md": 200, "PROOFS.md": 200, "PROVING.md": 200}
+REFERENCE_LINES = 150
+# These need more: a row for each construct beside a whole program, and test vectors.
+LONGER = {"FLEX.md": 175, "TABLES.md": 250}
 WORDS_OF_A_SENTENCE = 40
 BEGINNING = re.compile(r"^\s*//[/!]? (Whether|What|How|Where|Who|Of)\b", re.M)
 
