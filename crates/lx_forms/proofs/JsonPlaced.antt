@@ -12,10 +12,10 @@ use Rattle.lx_line.proofs.Places.{Placed-is, Placed-then}
 use Rattle.lx_forms.specs.Forms.{PlainForm}
 use Rattle.lx_forms.specs.FormStyles.{prefix_by, prefix_in}
 use Rattle.lx_forms.specs.JsonFields.{numbers_text, string_member}
-use Rattle.lx_forms.specs.JsonLines.{bytes_member, file_members, json_line, kind_value, text_member}
+use Rattle.lx_forms.specs.JsonLines.{bytes_member, file_members, json_line, json_line_with, kind_value, text_member}
 use Rattle.lx_forms.specs.declared.format.Format.{Format}
 use Rattle.lx_forms.specs.declared.format.Format.TheVariants.{Json}
-use Rattle.lx_forms.specs.JsonParts.{json_prefix, rest_of_line}
+use Rattle.lx_forms.specs.JsonParts.{json_prefix, rest_of_line, rest_with}
 
 -- the parts of a line, with its prefix by itself
 regrouped : (file sort key line s start n len text end : List ℕ) →
@@ -23,23 +23,26 @@ regrouped : (file sort key line s start n len text end : List ℕ) →
     ≡ (((file ++ sort) ++ (((((key ++ line) ++ s) ++ start) ++ n) ++ len)) ++ text) ++ end
 regrouped file sort key line s start n len text end = simp append_assoc
 
-prefix_and_rest : (form : PlainForm) (plan : Planned) (file : ℕ) (item : Item) → json_prefix form plan file (kind_of_item item) ++ rest_of_line form plan file item ≡ json_line form plan file item
-unfolding json_line
-prefix_and_rest form plan file (Token line start len kind) =
+prefix_and_rest : (form : PlainForm) (plan : Planned) (file : ℕ) (item : Item) (text : List ℕ) → json_prefix form plan file (kind_of_item item) ++ rest_with form item text ≡ json_line_with form plan.table file item text
+prefix_and_rest form plan file (Token line start len kind) text =
     regrouped (file_members form file) (codes ",\"kind\":" ++ kind_value plan kind) (codes ",\"line\":") (decimal line) (codes ",\"start\":") (decimal start) (codes ",\"len\":") (decimal len)
-    (text_member form (text_of (bytes_of plan file) (Token line start len kind))) (codes "}\n")
-prefix_and_rest form plan file (Echo line start len) =
+    (text_member form text) (codes "}\n")
+prefix_and_rest form plan file (Echo line start len) text =
     regrouped (file_members form file) (codes ",\"echo\":true") (codes ",\"line\":") (decimal line) (codes ",\"start\":") (decimal start) (codes ",\"len\":") (decimal len)
-    (text_member form (text_of (bytes_of plan file) (Echo line start len))) (codes "}\n")
+    (text_member form text) (codes "}\n")
+
+prefix_and_rest_of : (form : PlainForm) (plan : Planned) (file : ℕ) (item : Item) → json_prefix form plan file (kind_of_item item) ++ rest_of_line form plan file item ≡ json_line form plan file item
+unfolding json_line
+prefix_and_rest_of form plan file item = prefix_and_rest form plan file item (text_of (bytes_of plan file) item)
 
 -- both after other bytes
-pub line_pushed : (before q new : List ℕ) (form : PlainForm) (plan : Planned) (file : ℕ) (item : Item) → q ≡ before ++ json_prefix form plan file (kind_of_item item) → new ≡ q ++ rest_of_line form plan file item →
-    new ≡ before ++ json_line form plan file item
-line_pushed before q new form plan file item p r =
+pub line_pushed : (before q new : List ℕ) (form : PlainForm) (plan : Planned) (file : ℕ) (item : Item) (text : List ℕ) → q ≡ before ++ json_prefix form plan file (kind_of_item item) → new ≡ q ++ rest_with form item text →
+    new ≡ before ++ json_line_with form plan.table file item text
+line_pushed before q new form plan file item text p r =
     r
-    ∙ ap (λ (bytes : List ℕ). bytes ++ rest_of_line form plan file item) p
-    ∙ append_assoc before (json_prefix form plan file (kind_of_item item)) (rest_of_line form plan file item)
-    ∙ ap (λ (bytes : List ℕ). before ++ bytes) (prefix_and_rest form plan file item)
+    ∙ ap (λ (bytes : List ℕ). bytes ++ rest_with form item text) p
+    ∙ append_assoc before (json_prefix form plan file (kind_of_item item)) (rest_with form item text)
+    ∙ ap (λ (bytes : List ℕ). before ++ bytes) (prefix_and_rest form plan file item text)
 
 -- a text that is UTF-8, if texts are printed
 member_is : (printed : Bool) (text : List ℕ) → (printed ≡ true → is_utf8 text ≡ true) → string_member printed text ≡ (if printed then bytes_member (codes ",\"text\":") (codes ",\"hex\":") text else [])
@@ -64,6 +67,28 @@ rest_is form plan file item line start len bytes utf8 l s n t =
     ∙ ap (λ (k : List ℕ). numbers ++ (text_member form k ++ codes "}\n")) (text_same bs (start_of item) (len_of item))
     ∙ sym (append_assoc numbers (text_member form (text_of bs item)) (codes "}\n"))
 
+-- the same with this text
+rest_is_with : (form : PlainForm) (item : Item) (line start len : ℕ) (text : List ℕ) → (form.text ≡ true → is_utf8 text ≡ true) → line ≡ line_number item → start ≡ start_of item → len ≡ len_of item →
+    numbers_text line start len ++ (string_member form.text text ++ codes "}\n") ≡ rest_with form item text
+rest_is_with form item line start len text utf8 l s n =
+    let numbers = numbers_text (line_number item) (start_of item) (len_of item) in
+    ap (λ (m : List ℕ). numbers_text line start len ++ (m ++ codes "}\n")) (member_is form.text text utf8)
+    ∙ ap (λ (k : ℕ). numbers_text k start len ++ (text_member form text ++ codes "}\n")) l
+    ∙ ap (λ (k : ℕ). numbers_text (line_number item) k len ++ (text_member form text ++ codes "}\n")) s
+    ∙ ap (λ (k : ℕ). numbers_text (line_number item) (start_of item) k ++ (text_member form text ++ codes "}\n")) n
+    ∙ sym (append_assoc numbers (text_member form text) (codes "}\n"))
+
+pub line_placed_with : {a b c d e : List ℕ} {at i j k end : ℕ} (form : PlainForm) (plan : Planned) (file : ℕ) (item : Item) (kind : Option Kind) (line start len : ℕ) (text : List ℕ) →
+    form.format ≡ Json → Placed a b at (prefix_in form plan file kind) i → Placed b c i (numbers_text line start len) j → Placed c d j (string_member form.text text) k → Placed d e k (codes "}\n") end →
+    (form.text ≡ true → is_utf8 text ≡ true) → kind ≡ kind_of_item item → line ≡ line_number item → start ≡ start_of item → len ≡ len_of item →
+    take end e ≡ take at a ++ json_line_with form plan.table file item text
+line_placed_with {a} {b} {c} {d} {e} {at} form plan file item kind line start len text json p q r s utf8 same l m n =
+    let prefix = Placed-is p (ap (λ (format : Format). prefix_by format form plan file kind) json) in
+    (Placed-then prefix (Placed-then q (Placed-then r s))).bytes
+    ∙ ap (λ (k : Option Kind). take at a ++ (json_prefix form plan file k ++ (numbers_text line start len ++ (string_member form.text text ++ codes "}\n")))) same
+    ∙ ap (λ (rest : List ℕ). take at a ++ (json_prefix form plan file (kind_of_item item) ++ rest)) (rest_is_with form item line start len text utf8 l m n)
+    ∙ ap (λ (bs : List ℕ). take at a ++ bs) (prefix_and_rest form plan file item text)
+
 pub line_placed : {a b c d e : List ℕ} {at i j k end : ℕ} (form : PlainForm) (plan : Planned) (file : ℕ) (item : Item) (kind : Option Kind) (line start len : ℕ) (bytes : List ℕ) →
     form.format ≡ Json → Placed a b at (prefix_in form plan file kind) i → Placed b c i (numbers_text line start len) j → Placed c d j (string_member form.text (take len (drop start bytes))) k → Placed d e k (codes "}\n") end →
     (form.text ≡ true → is_utf8 (take len (drop start bytes)) ≡ true) → kind ≡ kind_of_item item → line ≡ line_number item → start ≡ start_of item → len ≡ len_of item → bytes ≡ bytes_of plan file →
@@ -73,4 +98,4 @@ line_placed {a} {b} {c} {d} {e} {at} form plan file item kind line start len byt
     (Placed-then prefix (Placed-then q (Placed-then r s))).bytes
     ∙ ap (λ (k : Option Kind). take at a ++ (json_prefix form plan file k ++ (numbers_text line start len ++ (string_member form.text (take len (drop start bytes)) ++ codes "}\n")))) same
     ∙ ap (λ (rest : List ℕ). take at a ++ (json_prefix form plan file (kind_of_item item) ++ rest)) (rest_is form plan file item line start len bytes utf8 l m n t)
-    ∙ ap (λ (bs : List ℕ). take at a ++ bs) (prefix_and_rest form plan file item)
+    ∙ ap (λ (bs : List ℕ). take at a ++ bs) (prefix_and_rest_of form plan file item)

@@ -1,13 +1,14 @@
 -- The listing of a plan in a form.
 use Rattle.std.specs.Prelude.{ℕ, zero, suc, Bool, if◌then◌else◌, List, [], ◌++◌}
 use Rattle.std.specs.List.{filter, flat_map}
+use Rattle.lx_tables.specs.Model.{Table}
 use Rattle.lx_scan.specs.declared.item.Item.{Item}
 use Rattle.lx_piece.specs.Plans.{Planned, files_of, is_cut, items_of}
 use Rattle.lx_forms.specs.declared.format.Format.{Format}
 use Rattle.lx_forms.specs.declared.format.Format.TheVariants.{Lines, Json}
 use Rattle.lx_forms.specs.Forms.{PlainForm, passes}
-use Rattle.lx_forms.specs.TextLines.{text_line, text_cut_line}
-use Rattle.lx_forms.specs.JsonLines.{json_line, json_cut_line}
+use Rattle.lx_forms.specs.TextLines.{text_line, text_line_with, text_cut_line}
+use Rattle.lx_forms.specs.JsonLines.{json_line, json_line_with, json_cut_line}
 
 -- the line of an item, by the format
 abbrev pub line_by : Format → PlainForm → Planned → ℕ → Item → List ℕ
@@ -16,6 +17,11 @@ line_by Json form plan file item = json_line form plan file item
 
 abbrev pub line_in : PlainForm → Planned → ℕ → Item → List ℕ
 line_in form plan file item = line_by form.format form plan file item
+
+-- the line of an item with this text, by the format
+abbrev pub line_with_by : Format → PlainForm → Table → ℕ → Item → List ℕ → List ℕ
+line_with_by Lines form table file item text = text_line_with form table file item text
+line_with_by Json form table file item text = json_line_with form table file item text
 
 -- the line of a file whose reading failed
 abbrev pub cut_line_by : Format → PlainForm → ℕ → List ℕ

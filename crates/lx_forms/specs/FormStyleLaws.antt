@@ -6,16 +6,16 @@ use Rattle.std.proofs.Math.Path.{ap₂}
 use Rattle.lx_scan.specs.declared.item.Item.{Item}
 use Rattle.lx_scan.specs.ItemParts.{text_of}
 use Rattle.lx_piece.specs.Plans.{Planned, bytes_of, files_of, is_cut, items_of}
-use Rattle.lx_line.specs.Styles.{AreWhole, HasWholeLines, lines_by}
+use Rattle.lx_line.specs.Styles.{AreWhole, HasWholeLines, NeedsText, lines_by}
 use Rattle.lx_listing.specs.Lines.{cut_lines_by}
 use Rattle.lx_listing.specs.Listings.{listing_by, listing_to_by}
 use Rattle.lx_forms.specs.declared.format.Format.{Format}
 use Rattle.lx_forms.specs.declared.format.Format.TheVariants.{Lines, Json}
 use Rattle.lx_forms.specs.Forms.{PlainForm, passes}
-use Rattle.lx_forms.specs.FormListings.{cut_line_by, cut_lines_in, line_by, line_in, lines_in, listing_in, listing_to_in}
+use Rattle.lx_forms.specs.FormListings.{cut_line_by, cut_lines_in, line_by, line_in, line_with_by, lines_in, listing_in, listing_to_in}
 use Rattle.lx_forms.specs.FormStyles.{item_line, style_of}
-use Rattle.lx_forms.specs.JsonLines.{file_members, json_cut_line, json_line, place_members, sort_member, text_member}
-use Rattle.lx_forms.specs.TextLines.{file_text, text_cut_line, text_line}
+use Rattle.lx_forms.specs.JsonLines.{file_members, json_cut_line, json_line, json_line_with, place_members, sort_member, text_member}
+use Rattle.lx_forms.specs.TextLines.{file_text, text_cut_line, text_line, text_line_with}
 
 -- a line that ends with a line feed
 ends : (front end : List ℕ) → AreWhole (front ++ (end ++ 10 ∷ []))
@@ -53,6 +53,25 @@ pub form_whole : (form : PlainForm) → HasWholeLines (style_of form)
 form_whole form = record {
   line = λ plan file item. printed_whole (passes form item) (line_in form plan file item) (line_whole form.format form plan file item);
   cut_line = λ file. cut_whole form.format form file;
+}
+
+-- ---- the line of an item needs only its text
+
+text_by_text : (form : PlainForm) (plan : Planned) (file : ℕ) (item : Item) → text_line form plan file item ≡ text_line_with form plan.table file item (text_of (bytes_of plan file) item)
+unfolding text_line
+text_by_text form plan file item = refl
+
+json_by_text : (form : PlainForm) (plan : Planned) (file : ℕ) (item : Item) → json_line form plan file item ≡ json_line_with form plan.table file item (text_of (bytes_of plan file) item)
+unfolding json_line
+json_by_text form plan file item = refl
+
+line_by_text : (format : Format) (form : PlainForm) (plan : Planned) (file : ℕ) (item : Item) → line_by format form plan file item ≡ line_with_by format form plan.table file item (text_of (bytes_of plan file) item)
+line_by_text Lines form plan file item = text_by_text form plan file item
+line_by_text Json form plan file item = json_by_text form plan file item
+
+pub form_text : (form : PlainForm) → NeedsText (style_of form)
+form_text form = record {
+  line = λ plan file item. ap (λ (line : List ℕ). if passes form item then line else []) (line_by_text form.format form plan file item);
 }
 
 -- ---- the listing in the style of a form is that in the form

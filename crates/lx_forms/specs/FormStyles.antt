@@ -1,6 +1,7 @@
 -- The style of a form's lines.
 use Rattle.std.specs.Prelude.{ℕ, if◌then◌else◌, List, [], ◌++◌, Option, codes}
 use Rattle.lx_rules.specs.declared.rule.Kind.{Kind}
+use Rattle.lx_tables.specs.Model.{Table}
 use Rattle.lx_scan.specs.declared.item.Item.{Item}
 use Rattle.lx_piece.specs.Plans.{Planned}
 use Rattle.lx_line.specs.Prefixes.{class_and_kind}
@@ -8,7 +9,7 @@ use Rattle.lx_line.specs.Styles.{Style}
 use Rattle.lx_forms.specs.declared.format.Format.{Format}
 use Rattle.lx_forms.specs.declared.format.Format.TheVariants.{Lines, Json}
 use Rattle.lx_forms.specs.Forms.{PlainForm, passes}
-use Rattle.lx_forms.specs.FormListings.{cut_line_in, line_in}
+use Rattle.lx_forms.specs.FormListings.{cut_line_in, line_in, line_with_by}
 use Rattle.lx_forms.specs.JsonParts.{json_prefix}
 use Rattle.lx_forms.specs.TextLines.{file_text}
 
@@ -16,8 +17,12 @@ use Rattle.lx_forms.specs.TextLines.{file_text}
 abbrev pub item_line : PlainForm → Planned → ℕ → Item → List ℕ
 item_line form plan file item = if passes form item then line_in form plan file item else []
 
+-- the same of an item with this text
+abbrev pub item_line_with : PlainForm → Table → ℕ → Item → List ℕ → List ℕ
+item_line_with form table file item text = if passes form item then line_with_by form.format form table file item text else []
+
 abbrev pub style_of : PlainForm → Style
-style_of form = record { line = item_line form; cut_line = cut_line_in form }
+style_of form = record { line = item_line form; line_with = item_line_with form; cut_line = cut_line_in form }
 
 -- the part of a line of fields before the number of the line
 abbrev pub text_prefix : PlainForm → Planned → ℕ → Option Kind → List ℕ

@@ -5,10 +5,11 @@ use Rattle.std.specs.Option.{option_map_or}
 use Rattle.std.specs.Str.{is_utf8}
 use Rattle.lx_rules.specs.declared.rule.Kind.{Kind}
 use Rattle.lx_rules.specs.declared.rule.Kind.TheVariants.{Name, Number}
+use Rattle.lx_tables.specs.Model.{Table, kind_at}
 use Rattle.lx_scan.specs.declared.item.Item.{Item}
 use Rattle.lx_scan.specs.declared.item.Item.TheVariants.{Token, Echo}
 use Rattle.lx_scan.specs.ItemParts.{line_of as line_number, start_of, len_of, text_of}
-use Rattle.lx_piece.specs.Plans.{Planned, bytes_of, kind_of}
+use Rattle.lx_piece.specs.Plans.{Planned, bytes_of}
 use Rattle.lx_forms.specs.Forms.{PlainForm, name_of, number_in}
 
 -- a lower-case hexadecimal digit
@@ -46,14 +47,20 @@ abbrev pub file_members : PlainForm → ℕ → List ℕ
 file_members form file = codes "{\"file\":" ++ decimal (number_in form file) ++ name_member form file
 
 -- the name of a kind as a string, or its number
+abbrev pub kind_value_in : Table → Kind → List ℕ
+kind_value_in table (Name place) = string_of (kind_at table place)
+kind_value_in table (Number number) = decimal number
+
 abbrev pub kind_value : Planned → Kind → List ℕ
-kind_value plan (Name place) = string_of (kind_of plan place)
-kind_value plan (Number number) = decimal number
+kind_value plan kind = kind_value_in plan.table kind
 
 -- the kind of a token, or the mark of an Echo
+abbrev pub sort_member_in : Table → Item → List ℕ
+sort_member_in table (Token line start len kind) = codes ",\"kind\":" ++ kind_value_in table kind
+sort_member_in table (Echo line start len) = codes ",\"echo\":true"
+
 abbrev pub sort_member : Planned → Item → List ℕ
-sort_member plan (Token line start len kind) = codes ",\"kind\":" ++ kind_value plan kind
-sort_member plan (Echo line start len) = codes ",\"echo\":true"
+sort_member plan item = sort_member_in plan.table item
 
 abbrev pub place_members : Item → List ℕ
 place_members item =
@@ -63,10 +70,13 @@ place_members item =
 abbrev pub text_member : PlainForm → List ℕ → List ℕ
 text_member form text = if form.text then bytes_member (codes ",\"text\":") (codes ",\"hex\":") text else []
 
--- the line of an item
+-- the line of an item with this text
+abbrev pub json_line_with : PlainForm → Table → ℕ → Item → List ℕ → List ℕ
+json_line_with form table file item text = file_members form file ++ sort_member_in table item ++ place_members item ++ text_member form text ++ codes "}\n"
+
+-- the line of an item of a file
 unfoldable pub json_line : PlainForm → Planned → ℕ → Item → List ℕ
-json_line form plan file item =
-    file_members form file ++ sort_member plan item ++ place_members item ++ text_member form (text_of (bytes_of plan file) item) ++ codes "}\n"
+json_line form plan file item = json_line_with form plan.table file item (text_of (bytes_of plan file) item)
 
 -- the line of a file whose reading failed
 unfoldable pub json_cut_line : PlainForm → ℕ → List ℕ

@@ -17,6 +17,10 @@ sort_text plan (Some kind) = codes ",\"kind\":" ++ kind_value plan kind
 abbrev pub json_prefix : PlainForm → Planned → ℕ → Option Kind → List ℕ
 json_prefix form plan file kind = file_members form file ++ sort_text plan kind ++ codes ",\"line\":"
 
--- the part after the prefix of the line of an item
+-- the part after the prefix of the line of an item with this text
+abbrev pub rest_with : PlainForm → Item → List ℕ → List ℕ
+rest_with form item text = numbers_text (line_number item) (start_of item) (len_of item) ++ text_member form text ++ codes "}\n"
+
+-- that of an item of a file
 abbrev pub rest_of_line : PlainForm → Planned → ℕ → Item → List ℕ
-rest_of_line form plan file item = numbers_text (line_number item) (start_of item) (len_of item) ++ text_member form (text_of (bytes_of plan file) item) ++ codes "}\n"
+rest_of_line form plan file item = rest_with form item (text_of (bytes_of plan file) item)

@@ -1,10 +1,11 @@
 //! Makes lines in JSON in a form.
 
-ghost use Rattle.std.specs.Prelude.{◌≡◌, ◌+◌, ◌*◌, ◌^◌, ◌<◌, ◌≤◌, ◌++◌, IsTrue, MatchOption, OnOk, codes, decimal, drop, length, take};
+ghost use Rattle.std.specs.Prelude.{◌≡◌, ◌+◌, ◌*◌, ◌^◌, ◌<◌, ◌≤◌, ◌++◌, IsTrue, MatchOption, OnOk, codes, decimal, drop, length, take, true};
 ghost use Rattle.std.specs.List.{flat_map};
+ghost use Rattle.std.specs.Str.{is_utf8};
 ghost use Rattle.lx_rules.specs.declared.rule.Kind.{Kind};
-ghost use Rattle.lx_scan.specs.ItemParts.{IsItemOf, IsKindAmong, LiesIn};
-ghost use Rattle.lx_piece.specs.Plans.{bytes_of, files_of, kinds_of};
+ghost use Rattle.lx_scan.specs.ItemParts.{IsItemOf, IsKindAmong, NamesKindAmong};
+ghost use Rattle.lx_piece.specs.Plans.{bytes_of, kinds_of};
 ghost use Rattle.lx_line.specs.Fields.{AreKept};
 ghost use Rattle.lx_line.specs.Placed.{Placed};
 ghost use Rattle.lx_line.specs.Prefixes.{ArePrefixesOf, IsKindOf};
@@ -12,17 +13,17 @@ ghost use Rattle.lx_forms.specs.declared.format.Format.{Format};
 ghost use Rattle.lx_forms.specs.Forms.{number_in};
 ghost use Rattle.lx_forms.specs.FormStyles.{prefix_in};
 ghost use Rattle.lx_forms.specs.JsonFields.{IsShortText, numbers_text, string_member};
-ghost use Rattle.lx_forms.specs.JsonLines.{bytes_member, file_members, hex_pair, json_cut_line, json_line, kind_value, name_member, string_of, text_member};
-ghost use Rattle.lx_forms.specs.JsonParts.{json_prefix, rest_of_line, sort_text};
+ghost use Rattle.lx_forms.specs.JsonLines.{bytes_member, file_members, hex_pair, json_cut_line, json_line, json_line_with, kind_value, name_member, string_of, text_member};
+ghost use Rattle.lx_forms.specs.JsonParts.{json_prefix, rest_with, sort_text};
 ghost use Rattle.lx_forms.specs.Views.{form_view};
 
 use crate::form::{Form, name_of};
 use crate::strings::{StringEscape, is_text, is_text_at, place_string, small_digit};
 use crate::style::FormStyle;
-use crate::text_lines::text_in;
 use lx_line::{
-    Digits, Draft, Numbers, fits, kind_of, numbers_in, numbers_of, place_4, place_16, place_all,
-    place_byte, place_number, place_small, place_text, push_number, push_text,
+    Digits, Draft, Numbers, are_short, fits, kind_of, numbers_in, numbers_of, place_4, place_16,
+    place_all, place_any_text, place_byte, place_number, place_small, place_text, push_number,
+    push_text,
 };
 use lx_piece::Plan;
 use lx_rules::rule::Kind;
@@ -181,36 +182,33 @@ fn push_printed(block: &mut Vec<u8>, form: &Form<'_>, text: &[u8]) -> Result<(),
 fn push_rest(
     block: &mut Vec<u8>,
     form: &Form<'_>,
-    plan: &Plan,
-    file: u32,
     item: &Item,
+    text: &[u8],
 ) -> Result<(), AllocError>
-    requires file { file < files_of plan.now }
-    requires item { LiesIn (bytes_of plan.now file) item.now }
     ensures { OnOk result (block.new.items
-        ≡ block.old.items ++ rest_of_line (form_view form.now) plan.now file item.now) }
+        ≡ block.old.items ++ rest_with (form_view form.now) item.now text.now) }
 {
     push_numbers(block, numbers_of(item))?;
-    push_printed(block, form, text_in(plan, file, item))?;
+    push_printed(block, form, text)?;
     block.extend_from_slice(b"}\n")?;
     Ok(())
 }
 
-/// Appends the line of an item of a file.
+/// Appends the line of an item with this text.
 pub(crate) fn push_json_line(
     block: &mut Vec<u8>,
     form: &Form<'_>,
     plan: &Plan,
     file: u32,
     item: &Item,
+    text: &[u8],
 ) -> Result<(), AllocError>
-    requires file { file < files_of plan.now }
-    requires item { IsItemOf (kinds_of plan.now) (bytes_of plan.now file) item.now }
-    ensures { OnOk result (block.new.items
-        ≡ block.old.items ++ json_line (form_view form.now) plan.now file item.now) }
+    requires { NamesKindAmong (kinds_of plan.now) item.now }
+    ensures { OnOk result (block.new.items ≡ block.old.items
+        ++ json_line_with (form_view form.now) plan.now.table file item.now text.now) }
 {
     push_prefix(block, form, plan, file, kind_of(item))?;
-    push_rest(block, form, plan, file, item)?;
+    push_rest(block, form, item, text)?;
     Ok(())
 }
 
@@ -435,5 +433,70 @@ pub(crate) fn place_json_line(
     };
     let at = place_numbers(buf, at, &draft.digits, numbers);
     let at = place_printed(buf, at, style.form.text, bytes, numbers);
+    Some(place_4(buf, at, b"}\n  ", 0, 2))
+}
+
+// Returns true if the text is short enough. A printed text must also be UTF-8.
+#[inline(always)]
+fn can_be_placed_with(is_printed: bool, numbers: Numbers, text: &[u8]) -> bool
+    ensures len { IsTrue result → numbers.len ≤ 96 }
+    ensures text { IsTrue result → length text.now ≤ 96 }
+    ensures utf8 { IsTrue result → is_printed ≡ true → is_utf8 text.now ≡ true }
+{
+    are_short(numbers, text) && (!is_printed || is_text(text))
+}
+
+// Places this text, which is UTF-8, if texts are printed.
+#[inline(always)]
+fn place_printed_text(buf: &mut [u8], at: usize, is_printed: bool, text: &[u8]) -> usize
+    requires { at + 6 * length text.now + 32 ≤ length buf.old }
+    ensures placed { Placed buf.old buf.new at (string_member is_printed text.now) result }
+    ensures short { result ≤ at + 6 * length text.now + 10 }
+{
+    if !is_printed {
+        return at;
+    }
+    let at = place_16(buf, at, b",\"text\":\"       ", 0, 9);
+    let at = place_any_text::<StringEscape>(buf, at, text);
+    place_byte(buf, at, b'"')
+}
+
+/// Places the line of an item with this text from ready parts. Returns `None` if it needs the plain way.
+#[inline(always)]
+pub(crate) fn place_json_line_with(
+    style: &FormStyle<'_>,
+    draft: &mut Draft,
+    buf: &mut [u8],
+    at: usize,
+    plan: &Plan,
+    file: u32,
+    item: &FlatItem,
+    text: &[u8],
+) -> Option<usize>
+    requires format { style.now.form.now.format ≡ Format.Json }
+    requires room { at + 800 ≤ length buf.old }
+    requires item { NamesKindAmong (kinds_of plan.now) item.now }
+    requires prefixes { ArePrefixesOf (prefix_in (form_view style.now.form.now) plan.now file)
+        draft.old.prefixes }
+    ensures placed { MatchOption result (buf.new ≡ buf.old) (λ end. take end buf.new
+        ≡ take at buf.old ++ json_line_with (form_view style.now.form.now) plan.now.table file item.now
+        text.now) }
+    ensures short { MatchOption result (Unit {0}) (λ end. end ≤ at + 800) }
+    ensures len { length buf.new ≡ length buf.old }
+    ensures prefixes { ArePrefixesOf (prefix_in (form_view style.now.form.now) plan.now file)
+        draft.new.prefixes }
+{
+    let numbers = numbers_in(item);
+    if !can_be_placed_with(style.form.text, numbers, text) || !draft.digits.follow(numbers) {
+        return None;
+    }
+    let Some(at) = draft
+        .prefixes
+        .place(style, buf, at, plan, file, item.label())
+    else {
+        return None;
+    };
+    let at = place_numbers(buf, at, &draft.digits, numbers);
+    let at = place_printed_text(buf, at, style.form.text, text);
     Some(place_4(buf, at, b"}\n  ", 0, 2))
 }

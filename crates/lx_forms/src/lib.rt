@@ -22,3 +22,4 @@ pub use laws::{bare_listings_are_listings, listings_join, words_select_by_kind};
 pub use name_list::{NameListFault, push_names};
 pub use printing::list_plan_in;
 pub use selection::Selection;
+pub use style::FormStyle;

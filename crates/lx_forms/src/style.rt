@@ -4,8 +4,12 @@ ghost use Rattle.lx_forms.specs.Views.{form_view};
 
 use crate::form::Form;
 use crate::format::Format;
-use crate::json_lines::{place_json_line, place_json_prefix, push_json_cut_line, push_json_line};
-use crate::text_lines::{place_text_line, place_text_prefix, push_text_cut_line, push_text_start};
+use crate::json_lines::{
+    place_json_line, place_json_line_with, place_json_prefix, push_json_cut_line, push_json_line,
+};
+use crate::text_lines::{
+    place_text_line, place_text_line_with, place_text_prefix, push_text_cut_line, push_text_start,
+};
 use lx_line::{Draft, LinePrefix, LineStyle};
 use lx_piece::Plan;
 use lx_rules::rule::Kind;
@@ -43,7 +47,7 @@ impl<'a> LinePrefix for FormStyle<'a> {
 }
 
 impl<'a> LineStyle for FormStyle<'a> {
-    ghost use Rattle.lx_forms.specs.FormStyleLaws.{form_whole};
+    ghost use Rattle.lx_forms.specs.FormStyleLaws.{form_text, form_whole};
     ghost use Rattle.lx_forms.specs.FormStyles.{style_of};
 
     ghost style = { λ s. style_of (form_view s.form.now) };
@@ -68,12 +72,33 @@ impl<'a> LineStyle for FormStyle<'a> {
         }
     }
 
+    #[inline(always)]
+    fn place_line_with(
+        &self,
+        draft: &mut Draft,
+        buf: &mut [u8],
+        at: usize,
+        plan: &Plan,
+        file: u32,
+        item: &FlatItem,
+        text: &[u8],
+    ) -> Option<usize> {
+        if !self.form.passes_flat(item) {
+            return Some(at);
+        }
+        match self.form.format {
+            Format::Lines => place_text_line_with(self, draft, buf, at, plan, file, item, text),
+            Format::Json => place_json_line_with(self, draft, buf, at, plan, file, item, text),
+        }
+    }
+
     fn push_start(
         &self,
         block: &mut Vec<u8>,
         plan: &Plan,
         file: u32,
         item: &Item,
+        text: &[u8],
     ) -> Result<bool, AllocError> {
         if !self.form.passes(item) {
             return Ok(false);
@@ -81,7 +106,7 @@ impl<'a> LineStyle for FormStyle<'a> {
         match self.form.format {
             Format::Lines => push_text_start(block, self.form, plan, file, item),
             Format::Json => {
-                push_json_line(block, self.form, plan, file, item)?;
+                push_json_line(block, self.form, plan, file, item, text)?;
                 Ok(false)
             }
         }
@@ -95,4 +120,6 @@ impl<'a> LineStyle for FormStyle<'a> {
     }
 
     ghost whole = { λ s. form_whole (form_view s.form.now) };
+
+    ghost by_text = { λ s. form_text (form_view s.form.now) };
 }

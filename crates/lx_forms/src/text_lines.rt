@@ -1,23 +1,23 @@
 //! Makes lines of fields in a form.
 
-ghost use Rattle.std.specs.Prelude.{◌≡◌, ◌+◌, ◌<◌, ◌≤◌, ◌++◌, IfOk, MatchOption, OnOk, codes, decimal, false, length, take, true};
+ghost use Rattle.std.specs.Prelude.{◌≡◌, ◌+◌, ◌<◌, ◌≤◌, ◌++◌, ℕ, IfOk, List, MatchOption, OnOk, codes, decimal, false, length, take, true};
 ghost use Rattle.std.specs.List.{flat_map};
 ghost use Rattle.lx_rules.specs.declared.rule.Kind.{Kind};
-ghost use Rattle.lx_scan.specs.ItemParts.{IsItemOf, LiesIn, NamesKindAmong, text_of};
-ghost use Rattle.lx_piece.specs.Plans.{bytes_of, files_of, kinds_of};
+ghost use Rattle.lx_scan.specs.ItemParts.{IsItemOf, NamesKindAmong};
+ghost use Rattle.lx_piece.specs.Plans.{bytes_of, kinds_of};
 ghost use Rattle.lx_line.specs.Escapes.{escaped, name_escaped};
 ghost use Rattle.lx_line.specs.Placed.{Placed};
 ghost use Rattle.lx_line.specs.Prefixes.{ArePrefixesOf, IsKindOf};
 ghost use Rattle.lx_forms.specs.declared.format.Format.{Format};
 ghost use Rattle.lx_forms.specs.FormStyles.{prefix_in, text_prefix};
-ghost use Rattle.lx_forms.specs.TextLines.{fields_of, file_text, text_cut_line, text_line};
+ghost use Rattle.lx_forms.specs.TextLines.{fields_of, file_text, text_cut_line, text_line, text_line_with};
 ghost use Rattle.lx_forms.specs.Views.{form_view};
 
 use crate::form::{Form, name_of};
 use crate::style::FormStyle;
 use lx_line::{
-    Draft, NameEscape, numbers_of, place_any_text, place_byte, place_fields, place_kind,
-    place_number, push_field, push_kind, push_number, push_text,
+    Draft, NameEscape, numbers_of, place_any_text, place_byte, place_fields, place_fields_with,
+    place_kind, place_number, push_field, push_kind, push_number, push_text,
 };
 use lx_piece::Plan;
 use lx_rules::rule::Kind;
@@ -51,16 +51,7 @@ fn push_fields(block: &mut Vec<u8>, plan: &Plan, item: &Item) -> Result<(), Allo
     Ok(())
 }
 
-/// Returns the text of an item of a file.
-pub(crate) fn text_in<'a>(plan: &'a Plan, file: u32, item: &Item) -> &'a [u8]
-    requires file { file < files_of plan.now }
-    requires item { LiesIn (bytes_of plan.now file) item.now }
-    ensures { result.now ≡ text_of (bytes_of plan.now file) item.now }
-{
-    item.text(plan.bytes(file))
-}
-
-/// Appends the line of an item of a file up to its text. Returns true if texts are printed. Otherwise the line is whole.
+/// Appends the line of an item up to its text. Returns true if texts are printed. Otherwise the line is whole.
 pub(crate) fn push_text_start(
     block: &mut Vec<u8>,
     form: &Form<'_>,
@@ -70,10 +61,11 @@ pub(crate) fn push_text_start(
 ) -> Result<bool, AllocError>
     requires { NamesKindAmong (kinds_of plan.now) item.now }
     ensures start { IfOk result (λ goes_on. goes_on ≡ true
-        → (block.new.items ++ flat_map escaped (text_of (bytes_of plan.now file) item.now))
-        ++ codes "\n" ≡ block.old.items ++ text_line (form_view form.now) plan.now file item.now) }
+        → (text : List ℕ) → (block.new.items ++ flat_map escaped text) ++ codes "\n"
+        ≡ block.old.items ++ text_line_with (form_view form.now) plan.now.table file item.now text) }
     ensures whole { IfOk result (λ goes_on. goes_on ≡ false
-        → block.new.items ≡ block.old.items ++ text_line (form_view form.now) plan.now file item.now) }
+        → (text : List ℕ) → block.new.items
+        ≡ block.old.items ++ text_line_with (form_view form.now) plan.now.table file item.now text) }
 {
     push_file(block, form, file)?;
     block.extend_from_slice(b" ")?;
@@ -182,5 +174,43 @@ pub(crate) fn place_text_line(
         file,
         bytes,
         item,
+    )
+}
+
+/// Places the line of an item with this text from ready parts. Returns `None` if it needs the plain way.
+#[inline(always)]
+pub(crate) fn place_text_line_with(
+    style: &FormStyle<'_>,
+    draft: &mut Draft,
+    buf: &mut [u8],
+    at: usize,
+    plan: &Plan,
+    file: u32,
+    item: &FlatItem,
+    text: &[u8],
+) -> Option<usize>
+    requires format { style.now.form.now.format ≡ Format.Lines }
+    requires room { at + 800 ≤ length buf.old }
+    requires item { NamesKindAmong (kinds_of plan.now) item.now }
+    requires prefixes { ArePrefixesOf (prefix_in (form_view style.now.form.now) plan.now file)
+        draft.old.prefixes }
+    ensures placed { MatchOption result (buf.new ≡ buf.old) (λ end. take end buf.new
+        ≡ take at buf.old ++ text_line_with (form_view style.now.form.now) plan.now.table file item.now
+        text.now) }
+    ensures short { MatchOption result (Unit {0}) (λ end. end ≤ at + 800) }
+    ensures len { length buf.new ≡ length buf.old }
+    ensures prefixes { ArePrefixesOf (prefix_in (form_view style.now.form.now) plan.now file)
+        draft.new.prefixes }
+{
+    place_fields_with(
+        style,
+        style.form.text,
+        draft,
+        buf,
+        at,
+        plan,
+        file,
+        item,
+        text,
     )
 }

@@ -16,3 +16,8 @@ number_behind old q p new n m e h k = behind_two old q (decimal m) (codes " ") p
 pub behind_ok : {T E : Type 0} (r : Result T E) (old q x p new : List ℕ) → p ≡ old ++ q → new ≡ (if is_ok r then p ++ x else p) → OnOk r (new ≡ old ++ (q ++ x))
 behind_ok (Ok value) old q x p new h k = behind old q x p new h k
 behind_ok (Err error) old q x p new h k = tt
+
+-- the same bytes, by a call that may fail
+pub ok_as : {T E : Type 0} (r : Result T E) (old x y new : List ℕ) → x ≡ y → OnOk r (new ≡ old ++ x) → OnOk r (new ≡ old ++ y)
+ok_as (Ok value) old x y new e h = h ∙ ap (λ bytes. old ++ bytes) e
+ok_as (Err error) old x y new e h = tt

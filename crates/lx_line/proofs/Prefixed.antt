@@ -16,7 +16,7 @@ use Rattle.lx_line.proofs.Places.{Placed-is, Placed-then}
 pub first_prefixes : (texts : Option Kind → List ℕ) (prefix : Prefix) → IsPrefixOf (texts None) prefix → ArePrefixesOf texts (record { slots = replicate 32 (record { label = 1; prefix = prefix }) })
 first_prefixes texts prefix is = record { slots = All-replicate (λ (slot : Slot). IsPrefixOf (texts (kind_of_label slot.label)) slot.prefix) 32 (record { label = 1; prefix = prefix }) is }
 
--- what was placed, and then more of it, unless that is too long
+-- the bytes that were placed, and then further ones, unless these are too long
 pub placed_then : {a b xs : List ℕ} {i j : ℕ} (c ys all : List ℕ) (r : Option ℕ) → Placed a b i xs j → xs ++ ys ≡ all → MatchOption r (Unit {0}) (λ end. Placed b c j ys end) → MatchOption r (Unit {0}) (λ end. Placed a c i all end)
 placed_then c ys all None p e q = tt
 placed_then c ys all (Some end) p e q = Placed-is (Placed-then p q) e

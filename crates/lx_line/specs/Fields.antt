@@ -11,16 +11,20 @@ use Rattle.lx_line.specs.declared.fields.Numbers.{Numbers}
 
 -- the part of a line after its prefix: line, start and length with a space after each, and the text
 abbrev pub rest_text : ℕ → ℕ → ℕ → List ℕ → List ℕ
-rest_text line start len bytes =
-    (decimal line ++ codes " ") ++ ((decimal start ++ codes " ") ++ ((decimal len ++ codes " ") ++ (flat_map escaped (take len (drop start bytes)) ++ codes "\n")))
+rest_text line start len text =
+    (decimal line ++ codes " ") ++ ((decimal start ++ codes " ") ++ ((decimal len ++ codes " ") ++ (flat_map escaped text ++ codes "\n")))
 
 -- the same of a line without its text
 abbrev pub textless : ℕ → ℕ → ℕ → List ℕ
 textless line start len = (decimal line ++ codes " ") ++ ((decimal start ++ codes " ") ++ (decimal len ++ codes "\n"))
 
--- the part after the prefix, with the text or without it
+-- the part after the prefix, with this text or without a text
+abbrev pub rest_with : Bool → ℕ → ℕ → ℕ → List ℕ → List ℕ
+rest_with printed line start len text = if printed then rest_text line start len text else textless line start len
+
+-- the same of a text in these bytes
 abbrev pub rest_by : Bool → ℕ → ℕ → ℕ → List ℕ → List ℕ
-rest_by printed line start len bytes = if printed then rest_text line start len bytes else textless line start len
+rest_by printed line start len bytes = rest_with printed line start len (take len (drop start bytes))
 
 -- that of the line of an item
 abbrev pub rest_of : Bool → Planned → ℕ → Item → List ℕ

@@ -3,7 +3,7 @@ use Rattle.std.proofs.Common.{ℕ, inl, inr, List, [], ◌∷◌, ◌++◌, refl
 use Rattle.std.specs.Prelude.{codes, decimal}
 use Rattle.lx_scan.specs.declared.item.Item.{Item}
 use Rattle.lx_piece.specs.Plans.{Planned}
-use Rattle.lx_line.specs.Styles.{AreWhole, HasWholeLines, Style, lines_by, plain}
+use Rattle.lx_line.specs.Styles.{AreWhole, HasWholeLines, NeedsText, Style, lines_by, plain}
 
 -- whole lines, and then further ones
 pub whole_both : (xs ys : List ℕ) → AreWhole xs → AreWhole ys → AreWhole (xs ++ ys)
@@ -21,3 +21,6 @@ plain_whole = record {
   line = λ plan file item. inr (_, refl);
   cut_line = λ file. inr (decimal file ++ codes " ! cut", sym (append_assoc (decimal file) (codes " ! cut") (10 ∷ [])));
 }
+
+pub plain_text : NeedsText plain
+plain_text = record { line = λ plan file item. refl }

@@ -1,18 +1,22 @@
 -- Styles of lines.
 use Rattle.std.specs.Prelude.{◌≡◌, ℕ, ◌⊎◌, List, [], ◌∷◌, ◌++◌}
 use Rattle.std.specs.List.{flat_map}
+use Rattle.lx_tables.specs.Model.{Table}
+use Rattle.lx_scan.specs.ItemParts.{text_of}
 use Rattle.lx_scan.specs.declared.item.Item.{Item}
-use Rattle.lx_piece.specs.Plans.{Planned}
-use Rattle.lx_line.specs.Lines.{line_of, cut_line as plain_cut_line}
+use Rattle.lx_piece.specs.Plans.{Planned, bytes_of}
+use Rattle.lx_line.specs.Lines.{line_of, line_with, cut_line as plain_cut_line}
 
--- The line of an item, or nothing for an item without one, and the line of a file whose reading failed.
+-- The line of an item of a file, or nothing for an item without one; the same of an item with this text, by the tables; and the line of a file whose
+-- reading failed.
 pub record Style : Type 0 where
   pub line : Planned → ℕ → Item → List ℕ
+  pub line_with : Table → ℕ → Item → List ℕ → List ℕ
   pub cut_line : ℕ → List ℕ
 
 -- the style of a listing without options
 abbrev pub plain : Style
-plain = record { line = line_of; cut_line = plain_cut_line }
+plain = record { line = line_of; line_with = line_with; cut_line = plain_cut_line }
 
 -- the lines of items of a file, in order
 abbrev pub lines_by : Style → Planned → ℕ → List Item → List ℕ
@@ -27,7 +31,11 @@ pub record HasWholeLines (style : Style) : Type 0 where
   pub line : (plan : Planned) (file : ℕ) (item : Item) → AreWhole (style.line plan file item)
   pub cut_line : (file : ℕ) → AreWhole (style.cut_line file)
 
--- what a draft is for: a style and a plan
+-- The line of an item needs only the tables, the number of the file and the item's text, of all that a plan has.
+pub record NeedsText (style : Style) : Type 0 where
+  pub line : (plan : Planned) (file : ℕ) (item : Item) → style.line plan file item ≡ style.line_with plan.table file item (text_of (bytes_of plan file) item)
+
+-- the purpose of a draft: a style and a plan
 pub record Drafted (L : Type 0) : Type 0 where
   pub style : L
   pub plan : Planned

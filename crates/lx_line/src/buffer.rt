@@ -1,12 +1,12 @@
 //! Gathers lines in memory of fixed length.
 
 ghost use Rattle.std.specs.Prelude.{◌≡◌, ◌<◌, ◌≤◌, [], ◌++◌, All, IfOk, false, length, take, true};
-ghost use Rattle.lx_scan.specs.ItemParts.{IsItemOf};
+ghost use Rattle.lx_scan.specs.ItemParts.{IsItemOf, NamesKindAmong};
 ghost use Rattle.lx_piece.specs.Plans.{files_of, bytes_of, kinds_of};
 ghost use Rattle.lx_line.specs.Prefixes.{ArePrefixesOf};
 ghost use Rattle.lx_line.specs.Styles.{lines_by};
 
-use crate::draft::Draft;
+use crate::draft::{Draft, LINE};
 use crate::place::place_all;
 use crate::style::LineStyle;
 use lx_piece::Plan;
@@ -74,6 +74,35 @@ impl LineBuffer {
         }
         self.len = place_all(&mut self.bytes, self.len, block);
         true
+    }
+
+    /// Appends the line of an item with this text. Returns false, without effect, if it has no room or needs the plain way.
+    pub fn place_line_with<L: LineStyle>(
+        &mut self,
+        style: &L,
+        draft: &mut Draft,
+        plan: &Plan,
+        file: u32,
+        item: &FlatItem,
+        text: &[u8],
+    ) -> bool
+        requires item { NamesKindAmong (kinds_of plan.now) item.now }
+        requires prefixes { ArePrefixesOf (L.prefix style.now plan.now file) draft.old.prefixes }
+        ensures placed { result ≡ true → self.new ≡ self.old
+            ++ (L.style style.now).line_with plan.now.table file item.now text.now }
+        ensures not { result ≡ false → self.new ≡ self.old }
+        ensures prefixes { ArePrefixesOf (L.prefix style.now plan.now file) draft.new.prefixes }
+    {
+        if self.len + LINE > ROOM {
+            return false;
+        }
+        match style.place_line_with(draft, &mut self.bytes, self.len, plan, file, item, text) {
+            Some(end) => {
+                self.len = end;
+                true
+            }
+            None => false,
+        }
     }
 
     /// Appends the lines of the first items, up to one that has no room or needs the plain way. Returns their number.

@@ -1,13 +1,13 @@
 //! Places lines one after the other from ready parts.
 
 ghost use Rattle.std.specs.Prelude.{◌≡◌, ◌+◌, ◌<◌, ◌≤◌, ◌++◌, All, MatchOption, length, take};
-ghost use Rattle.lx_scan.specs.ItemParts.{IsItemOf, kind_of_item};
+ghost use Rattle.lx_scan.specs.ItemParts.{IsItemOf, NamesKindAmong, kind_of_item, len_of, line_of, start_of};
 ghost use Rattle.lx_piece.specs.Plans.{files_of, bytes_of, kinds_of};
-ghost use Rattle.lx_line.specs.Fields.{rest_of};
+ghost use Rattle.lx_line.specs.Fields.{rest_of, rest_with};
 ghost use Rattle.lx_line.specs.Prefixes.{ArePrefixesOf};
 ghost use Rattle.lx_line.specs.Styles.{lines_by};
 
-use crate::fields::{Digits, fits, numbers_in, place_rest};
+use crate::fields::{Digits, are_short, fits, numbers_in, place_rest, place_rest_with};
 use crate::prefixes::Prefixes;
 use crate::style::{LinePrefix, LineStyle};
 use lx_piece::Plan;
@@ -15,7 +15,7 @@ use lx_scan::FlatItem;
 
 // Greatest length of a line. It has a prefix of 128 bytes, three numbers, a text in which each byte may take six, and what lies between them. 16 bytes
 // that are copied after the text come to it.
-const LINE: usize = 800;
+pub(crate) const LINE: usize = 800;
 
 /// Some first items whose lines were placed: their number, and the position where the lines end.
 #[derive(Clone, Copy, Drop)]
@@ -127,4 +127,40 @@ pub fn place_fields<L: LinePrefix>(
         return None;
     };
     Some(place_rest(buf, at, &draft.digits, numbers, is_printed, bytes))
+}
+
+/// Does the same as `place_fields` for an item with this text. The plan need not have the item: only its tables count.
+#[inline(always)]
+pub fn place_fields_with<L: LinePrefix>(
+    prefix: &L,
+    is_printed: bool,
+    draft: &mut Draft,
+    buf: &mut [u8],
+    at: usize,
+    plan: &Plan,
+    file: u32,
+    item: &FlatItem,
+    text: &[u8],
+) -> Option<usize>
+    requires room { at + 800 ≤ length buf.old }
+    requires item { NamesKindAmong (kinds_of plan.now) item.now }
+    requires prefixes { ArePrefixesOf (L.prefix prefix.now plan.now file) draft.old.prefixes }
+    ensures placed { MatchOption result (buf.new ≡ buf.old) (λ end. take end buf.new ≡ take at buf.old
+        ++ (L.prefix prefix.now plan.now file (kind_of_item item.now)
+        ++ rest_with is_printed (line_of item.now) (start_of item.now) (len_of item.now) text.now)) }
+    ensures short { MatchOption result (Unit {0}) (λ end. end ≤ at + 800) }
+    ensures len { length buf.new ≡ length buf.old }
+    ensures prefixes { ArePrefixesOf (L.prefix prefix.now plan.now file) draft.new.prefixes }
+{
+    let numbers = numbers_in(item);
+    if !are_short(numbers, text) || !draft.digits.follow(numbers) {
+        return None;
+    }
+    let Some(at) = draft
+        .prefixes
+        .place(prefix, buf, at, plan, file, item.label())
+    else {
+        return None;
+    };
+    Some(place_rest_with(buf, at, &draft.digits, numbers, is_printed, text))
 }

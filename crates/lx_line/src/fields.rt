@@ -2,14 +2,14 @@
 
 ghost use Rattle.std.specs.Prelude.{◌≡◌, ◌+◌, ◌<◌, ◌≤◌, IsTrue, decimal, length};
 ghost use Rattle.lx_scan.specs.ItemParts.{kind_of_item, line_of, start_of, len_of};
-ghost use Rattle.lx_line.specs.Fields.{AreKept, rest_by};
+ghost use Rattle.lx_line.specs.Fields.{AreKept, rest_by, rest_with};
 ghost use Rattle.lx_line.specs.Placed.{Placed};
 
 use crate::decimals::place_short;
 use crate::escape::TextEscape;
 use crate::place::place_byte;
 use crate::shared::SharedDigits;
-use crate::texts::place_text;
+use crate::texts::{place_any_text, place_text};
 use lx_rules::rule::Kind;
 use lx_scan::{FlatItem, Item};
 
@@ -153,6 +153,45 @@ pub(crate) fn place_rest(
     let at = place_short(buf, at, len);
     let at = place_text::<TextEscape>(buf, at, bytes, start, len);
     place_byte(buf, at, b'\n')
+}
+
+/// Places the part of a line after its prefix, with this text or without a text.
+#[inline(always)]
+pub(crate) fn place_rest_with(
+    buf: &mut [u8],
+    at: usize,
+    digits: &Digits,
+    numbers: Numbers,
+    is_printed: bool,
+    text: &[u8],
+) -> usize
+    requires digits { AreKept digits.now numbers }
+    requires len { numbers.len ≤ 96 }
+    requires text { length text.now ≤ 96 }
+    requires room { at + 656 ≤ length buf.old }
+    ensures placed { Placed buf.old buf.new at
+        (rest_with is_printed numbers.line numbers.start numbers.len text.now) result }
+    ensures short { result ≤ at + 640 }
+{
+    let Numbers { line, start, len } = numbers;
+    let at = digits.line.place(buf, at, line);
+    let at = digits.start.place(buf, at, start as u64);
+    if !is_printed {
+        let at = place_small(buf, at, len);
+        return place_byte(buf, at, b'\n');
+    }
+    let at = place_short(buf, at, len);
+    let at = place_any_text::<TextEscape>(buf, at, text);
+    place_byte(buf, at, b'\n')
+}
+
+/// Returns true if a text and its length are short enough.
+#[inline(always)]
+pub fn are_short(numbers: Numbers, text: &[u8]) -> bool
+    ensures len { IsTrue result → numbers.len ≤ 96 }
+    ensures text { IsTrue result → length text.now ≤ 96 }
+{
+    numbers.len <= TEXT && text.len() <= TEXT
 }
 
 /// Returns true if the text is short enough, and 16 bytes can be read after it.

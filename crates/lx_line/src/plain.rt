@@ -8,7 +8,7 @@ ghost use Rattle.lx_line.specs.Lines.{class_text, name_text, kind_text, cut_line
 ghost use Rattle.lx_line.specs.Placed.{Placed};
 ghost use Rattle.lx_line.specs.Prefixes.{IsKindOf, class_and_kind};
 
-use crate::draft::{Draft, place_fields};
+use crate::draft::{Draft, place_fields, place_fields_with};
 use crate::escape::{Escape, TextEscape};
 use crate::fields::numbers_of;
 use crate::place::{place_all, place_byte};
@@ -135,10 +135,27 @@ pub fn push_line<L: LineStyle>(
     ensures { OnOk result (block.new.items
         ≡ block.old.items ++ (L.style style.now).line plan.now file item.now) }
 {
-    if !style.push_start(block, plan, file, item)? {
+    push_line_with(style, block, plan, file, item, item.text(plan.bytes(file)))
+}
+
+/// Appends the line of an item with this text, if it has one. The plan need not have the item: only its tables count. If an allocation fails, a part of
+/// the line was appended.
+pub fn push_line_with<L: LineStyle>(
+    style: &L,
+    block: &mut Vec<u8>,
+    plan: &Plan,
+    file: u32,
+    item: &Item,
+    text: &[u8],
+) -> Result<(), AllocError>
+    requires { NamesKindAmong (kinds_of plan.now) item.now }
+    ensures { OnOk result (block.new.items ≡ block.old.items
+        ++ (L.style style.now).line_with plan.now.table file item.now text.now) }
+{
+    if !style.push_start(block, plan, file, item, text)? {
         return Ok(());
     }
-    push_text::<TextEscape>(block, item.text(plan.bytes(file)))?;
+    push_text::<TextEscape>(block, text)?;
     block.extend_from_slice(b"\n")
 }
 
@@ -221,7 +238,7 @@ impl LinePrefix for PlainStyle {
 }
 
 impl LineStyle for PlainStyle {
-    ghost use Rattle.lx_line.specs.StyleLaws.{plain_whole};
+    ghost use Rattle.lx_line.specs.StyleLaws.{plain_text, plain_whole};
     ghost use Rattle.lx_line.specs.Styles.{plain};
 
     ghost style = { λ _. plain };
@@ -240,12 +257,27 @@ impl LineStyle for PlainStyle {
         place_fields(self, true, draft, buf, at, plan, file, bytes, item)
     }
 
+    #[inline(always)]
+    fn place_line_with(
+        &self,
+        draft: &mut Draft,
+        buf: &mut [u8],
+        at: usize,
+        plan: &Plan,
+        file: u32,
+        item: &FlatItem,
+        text: &[u8],
+    ) -> Option<usize> {
+        place_fields_with(self, true, draft, buf, at, plan, file, item, text)
+    }
+
     fn push_start(
         &self,
         block: &mut Vec<u8>,
         plan: &Plan,
         file: u32,
         item: &Item,
+        _text: &[u8],
     ) -> Result<bool, AllocError> {
         push_fields(block, plan, file, item)?;
         Ok(true)
@@ -256,4 +288,6 @@ impl LineStyle for PlainStyle {
     }
 
     ghost whole = { λ _. plain_whole };
+
+    ghost by_text = { λ _. plain_text };
 }

@@ -3,12 +3,12 @@
 ghost use Rattle.std.specs.Prelude.{◌≡◌, ◌+◌, ◌<◌, ◌≤◌, ◌++◌, ℕ, IfOk, List, MatchOption, OnOk, Option, codes, false, length, take, true};
 ghost use Rattle.std.specs.List.{flat_map};
 ghost use Rattle.lx_rules.specs.declared.rule.Kind.{Kind};
-ghost use Rattle.lx_scan.specs.ItemParts.{IsItemOf, text_of};
-ghost use Rattle.lx_piece.specs.Plans.{Planned, bytes_of, files_of, kinds_of};
+ghost use Rattle.lx_scan.specs.ItemParts.{IsItemOf, NamesKindAmong};
+ghost use Rattle.lx_piece.specs.Plans.{Planned, bytes_of, kinds_of};
 ghost use Rattle.lx_line.specs.Escapes.{escaped};
 ghost use Rattle.lx_line.specs.Placed.{Placed};
 ghost use Rattle.lx_line.specs.Prefixes.{ArePrefixesOf, IsKindOf};
-ghost use Rattle.lx_line.specs.Styles.{HasWholeLines, Style};
+ghost use Rattle.lx_line.specs.Styles.{HasWholeLines, NeedsText, Style};
 
 use crate::draft::Draft;
 use lx_piece::Plan;
@@ -65,22 +65,43 @@ pub trait LineStyle: LinePrefix {
         ensures len { length buf.new ≡ length buf.old }
         ensures prefixes { ArePrefixesOf (Self.prefix self.now plan.now file) draft.new.prefixes };
 
-    /// Appends the line of an item up to its text. Returns true if the line goes on with the text, escaped, and a line feed, and false if it is whole.
-    /// If an allocation fails, a part of it was appended.
+    /// Places the line of an item with this text. The plan need not have the item: only its tables count. Returns `None` if it needs the plain way.
+    fn place_line_with(
+        &self,
+        draft: &mut Draft,
+        buf: &mut [u8],
+        at: usize,
+        plan: &Plan,
+        file: u32,
+        item: &FlatItem,
+        text: &[u8],
+    ) -> Option<usize>
+        requires room { at + 800 ≤ length buf.old }
+        requires item { NamesKindAmong (kinds_of plan.now) item.now }
+        requires prefixes { ArePrefixesOf (Self.prefix self.now plan.now file) draft.old.prefixes }
+        ensures placed { MatchOption result (buf.new ≡ buf.old) (λ end. take end buf.new
+            ≡ take at buf.old ++ (style self.now).line_with plan.now.table file item.now text.now) }
+        ensures short { MatchOption result (Unit {0}) (λ end. end ≤ at + 800) }
+        ensures len { length buf.new ≡ length buf.old }
+        ensures prefixes { ArePrefixesOf (Self.prefix self.now plan.now file) draft.new.prefixes };
+
+    /// Appends the line of an item with this text, up to the text. The plan need not have the item: only its tables count. Returns true if the line
+    /// goes on with the text, escaped, and a line feed, and false if it is whole. If an allocation fails, a part of it was appended.
     fn push_start(
         &self,
         block: &mut Vec<u8>,
         plan: &Plan,
         file: u32,
         item: &Item,
+        text: &[u8],
     ) -> Result<bool, AllocError>
-        requires file { file < files_of plan.now }
-        requires item { IsItemOf (kinds_of plan.now) (bytes_of plan.now file) item.now }
+        requires { NamesKindAmong (kinds_of plan.now) item.now }
         ensures start { IfOk result (λ goes_on. goes_on ≡ true
-            → (block.new.items ++ flat_map escaped (text_of (bytes_of plan.now file) item.now))
-            ++ codes "\n" ≡ block.old.items ++ (style self.now).line plan.now file item.now) }
+            → (block.new.items ++ flat_map escaped text.now) ++ codes "\n" ≡ block.old.items
+            ++ (style self.now).line_with plan.now.table file item.now text.now) }
         ensures whole { IfOk result (λ goes_on. goes_on ≡ false
-            → block.new.items ≡ block.old.items ++ (style self.now).line plan.now file item.now) };
+            → block.new.items ≡ block.old.items
+            ++ (style self.now).line_with plan.now.table file item.now text.now) };
 
     /// Appends the line of a file whose reading failed.
     fn push_cut_line(&self, block: &mut Vec<u8>, file: u32) -> Result<(), AllocError>
@@ -88,4 +109,6 @@ pub trait LineStyle: LinePrefix {
             (block.new.items ≡ block.old.items ++ (style self.now).cut_line file) };
 
     ghost whole: { (s : Self) → HasWholeLines (style s) };
+
+    ghost by_text: { (s : Self) → NeedsText (style s) };
 }

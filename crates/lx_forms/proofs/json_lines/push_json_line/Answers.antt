@@ -10,5 +10,5 @@ returns c =
     let plan = c.args.plan.now in
     let file = c.args.file in
     let before = c.args.block.now.items in
-    line_pushed before c.push_prefix.new.block.items c.push_rest.new.block.items form plan file c.args.item.now
+    line_pushed before c.push_prefix.new.block.items c.push_rest.new.block.items form plan file c.args.item.now c.args.text.now
     (c.in_ok-push_prefix.ensures ∙ ap (λ kind. before ++ json_prefix form plan file kind) c.kind_of.ensures) c.in_ok-push_rest.ensures

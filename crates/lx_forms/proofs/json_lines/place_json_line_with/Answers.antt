@@ -1,0 +1,10 @@
+use Rattle.std.proofs.Common.{refl}
+use Rattle.lx_tables.specs.Labels.{kind_of_label}
+use Rattle.lx_forms.specs.Views.{form_view}
+use Rattle.lx_forms.proofs.JsonPlaced.{line_placed_with}
+use Rattle.lx_forms.proofs.json_lines.place_json_line_with.Goals as goal
+
+pub returns-clause-placed : goal.returns-clause-placed
+returns-clause-placed c =
+    let n = c.numbers_in-numbers in
+    line_placed_with (form_view c.args.style.now.form.now) c.args.plan.now c.args.file c.args.item.now (kind_of_label c.label.result) n.result.line n.result.start n.result.len c.args.text.now c.requires.format c.in-Some.ensures.placed c.place_numbers-at.ensures.placed c.place_printed_text-at.ensures.placed c.place_4.ensures (c.if-not-can_be_placed_with.ensures.utf8 refl) c.label.ensures n.ensures.line n.ensures.start n.ensures.len
