@@ -22,7 +22,7 @@ use Rattle.lx_listing.proofs.WholeLines.{piece_whole}
 abbrev turn_by : Turn → Bool → Turn
 turn_by turn last = if last then record { file = turn.file + 1; number = 0 } else record { file = turn.file; number = turn.number + 1 }
 
--- what pieces carry, and the lines of a piece: those that the plan's piece has in the style
+-- the contents of pieces, and the lines of a piece: those that the plan's piece has in the style
 pub record Carries {C : Type 0} (made : Making C) (listed : Listed) (lines : Piece C → List ℕ) : Type 0 where
   pub of : (file number : ℕ) → lines (piece_by made listed.plan file number) ≡ piece_lines_by listed.style listed.plan file (piece_at listed.plan file number)
 

@@ -10,3 +10,5 @@ pub mod Parts
 pub mod Printing
 pub mod PrintingLaws
 pub mod Shown
+pub mod Streamed
+pub mod StreamedLaws

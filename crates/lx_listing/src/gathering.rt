@@ -1,8 +1,9 @@
 //! Gathers lines before they go to a sink, so that the sink gets many at once.
 
 ghost use Rattle.std.specs.Prelude.{◌≡◌, ◌<◌, ◌≤◌, [], All, IfErr, IfOk, OnOk, OnErr, false, is_err, length, take, true};
-ghost use Rattle.lx_scan.specs.ItemParts.{IsItemOf};
+ghost use Rattle.lx_scan.specs.ItemParts.{IsItemOf, NamesKindAmong};
 ghost use Rattle.lx_piece.specs.Plans.{bytes_of, files_of, kinds_of};
+ghost use Rattle.lx_line.specs.Prefixes.{ArePrefixesOf};
 ghost use Rattle.lx_listing.specs.Gathered.{Gathers, gathered};
 ghost use Rattle.lx_listing.specs.Lines.{lines_by};
 ghost use Rattle.lx_listing.specs.Parts.{WrotePart};
@@ -10,9 +11,9 @@ ghost use Rattle.lx_listing.specs.Printing.{WrotePrefix};
 
 use crate::parts::{PART, gather_long};
 use crate::sink::LineSink;
-use lx_line::{LineBuffer, LineStyle, PlanDraft, numbers_of, push_line};
+use lx_line::{Draft, LineBuffer, LineStyle, PlanDraft, push_line_with};
 use lx_piece::{Plan, ReaderFault};
-use lx_scan::FlatItem;
+use lx_scan::{FlatItem, Item};
 use std::marker::Model;
 
 /// A sink with a buffer before it. The lines of items are placed directly in the buffer, and go on together. Once the sink failed it gets nothing
@@ -51,8 +52,8 @@ impl<S: LineSink> Gathering<S> {
         self.held.push(block)
     }
 
-    // Writes the contents of the buffer to the sink.
-    fn pass_on(&mut self) -> Result<(), ReaderFault>
+    /// Writes the contents of the buffer to the sink.
+    pub(crate) fn pass_on(&mut self) -> Result<(), ReaderFault>
         ensures gathers { Gathers S.wrote self.old [] self.new }
         ensures failed { self.new.failed ≡ is_err result }
         ensures empty { OnOk result (self.new.held ≡ []) }
@@ -98,8 +99,78 @@ impl<S: LineSink> Gathering<S> {
         self.write_through(block)
     }
 
-    // Gathers the line of an item that can't be placed. Makes it in the block, or in parts if its text is long.
-    fn gather_line<L: LineStyle>(
+    // Places the line of an item with this text in the buffer. Returns false, without effect, if it has no room or needs the plain way.
+    fn place_line<L: LineStyle>(
+        &mut self,
+        style: &L,
+        draft: &mut Draft,
+        plan: &Plan,
+        file: u32,
+        item: &FlatItem,
+        text: &[u8],
+    ) -> bool
+        requires item { NamesKindAmong (kinds_of plan.now) item.now }
+        requires prefixes { ArePrefixesOf (L.prefix style.now plan.now file) draft.old.prefixes }
+        ensures placed { result ≡ true → Gathers S.wrote self.old
+            ((L.style style.now).line_with plan.now.table file item.now text.now) self.new }
+        ensures not { result ≡ false → self.new ≡ self.old }
+        ensures prefixes { ArePrefixesOf (L.prefix style.now plan.now file) draft.new.prefixes }
+    {
+        self.held
+            .place_line_with(style, draft, plan, file, item, text)
+    }
+
+    /// Gathers the line of an item with this text. Makes it in the block, or in parts if the text is long. Only the tables of the plan count.
+    pub(crate) fn gather_line<L: LineStyle>(
+        &mut self,
+        style: &L,
+        block: &mut Vec<u8>,
+        plan: &Plan,
+        file: u32,
+        item: &Item,
+        text: &[u8],
+    ) -> Result<(), ReaderFault>
+        requires { NamesKindAmong (kinds_of plan.now) item.now }
+        ensures ok { OnOk result (Gathers S.wrote self.old
+            ((L.style style.now).line_with plan.now.table file item.now text.now) self.new) }
+        ensures part { IfErr result (λ fault. WrotePart (Gathers S.wrote) self.old fault
+            ((L.style style.now).line_with plan.now.table file item.now text.now) self.new) }
+    {
+        if text.len() > PART {
+            return gather_long(style, self, block, plan, file, item, text);
+        }
+        block.clear();
+        let Ok(()) = push_line_with(style, block, plan, file, item, text) else {
+            return Err(ReaderFault::Memory);
+        };
+        self.gather(block.as_slice())
+    }
+
+    /// Does the same as `gather_line`, and places the line from ready parts if it can.
+    pub(crate) fn gather_drafted<L: LineStyle>(
+        &mut self,
+        style: &L,
+        draft: &mut Draft,
+        block: &mut Vec<u8>,
+        plan: &Plan,
+        file: u32,
+        item: &FlatItem,
+        text: &[u8],
+    ) -> Result<(), ReaderFault>
+        requires item { NamesKindAmong (kinds_of plan.now) item.now }
+        requires prefixes { ArePrefixesOf (L.prefix style.now plan.now file) draft.old.prefixes }
+        ensures ok { OnOk result (Gathers S.wrote self.old
+            ((L.style style.now).line_with plan.now.table file item.now text.now) self.new) }
+        ensures prefixes { ArePrefixesOf (L.prefix style.now plan.now file) draft.new.prefixes }
+    {
+        if self.place_line(style, draft, plan, file, item, text) {
+            return Ok(());
+        }
+        self.gather_line(style, block, plan, file, &item.item(), text)
+    }
+
+    // Gathers the line of an item of a file.
+    fn gather_item<L: LineStyle>(
         &mut self,
         style: &L,
         block: &mut Vec<u8>,
@@ -115,14 +186,8 @@ impl<S: LineSink> Gathering<S> {
             ((L.style style.now).line plan.now file item.now) self.new) }
     {
         let item = item.item();
-        if numbers_of(&item).len > PART {
-            return gather_long(style, self, block, plan, file, &item);
-        }
-        block.clear();
-        let Ok(()) = push_line(style, block, plan, file, &item) else {
-            return Err(ReaderFault::Memory);
-        };
-        self.gather(block.as_slice())
+        let text = item.text(plan.bytes(file));
+        self.gather_line(style, block, plan, file, &item, text)
     }
 
     // Gathers the lines of the first items: all those that can be placed at once, or one that can't. Returns their number.
@@ -148,7 +213,7 @@ impl<S: LineSink> Gathering<S> {
     {
         let count = draft.place_lines(&mut self.held, plan, file, items);
         if count == 0 {
-            self.gather_line(draft.style(), block, plan, file, &items[0])?;
+            self.gather_item(draft.style(), block, plan, file, &items[0])?;
             return Ok(1);
         }
         Ok(count)

@@ -14,6 +14,7 @@ mod shown_lines;
 mod sink;
 mod spare_memory;
 mod spares;
+mod stream;
 mod styled;
 mod writing;
 
@@ -23,5 +24,6 @@ pub use printing::{list_plan, print_listing};
 pub use shown::{Shown, ShownForm};
 pub use sink::{Lent, LineSink};
 pub use spare_memory::{Spares, emptied};
+pub use stream::{BlockTaker, StreamLines};
 pub use styled::list_plan_by;
 pub use writing::{LineWrites, write_block};

@@ -1,9 +1,9 @@
 //! Gathers lines with long texts in parts, so that no block holds the whole text.
 
-ghost use Rattle.std.specs.Prelude.{◌≡◌, ◌+◌, ◌*◌, ◌<◌, ◌≤◌, IfErr, OnOk, OnErr, length};
+ghost use Rattle.std.specs.Prelude.{◌≡◌, ◌+◌, ◌*◌, ◌≤◌, IfErr, OnOk, OnErr, length};
 ghost use Rattle.std.specs.List.{flat_map};
-ghost use Rattle.lx_scan.specs.ItemParts.{IsItemOf};
-ghost use Rattle.lx_piece.specs.Plans.{bytes_of, files_of, kinds_of};
+ghost use Rattle.lx_scan.specs.ItemParts.{NamesKindAmong};
+ghost use Rattle.lx_piece.specs.Plans.{kinds_of};
 ghost use Rattle.lx_listing.specs.Gathered.{Gathers};
 ghost use Rattle.lx_listing.specs.Lines.{escaped};
 ghost use Rattle.lx_listing.specs.Parts.{WrotePart};
@@ -53,7 +53,7 @@ fn gather_text<S: LineSink>(sink: &mut Gathering<S>, text: &[u8]) -> Result<(), 
     Ok(())
 }
 
-// Gathers the line of an item that has one, with its text in parts.
+// Gathers the line of an item with this text, if it has one, with the text in parts.
 pub(crate) fn gather_long<L: LineStyle, S: LineSink>(
     style: &L,
     sink: &mut Gathering<S>,
@@ -61,23 +61,23 @@ pub(crate) fn gather_long<L: LineStyle, S: LineSink>(
     plan: &Plan,
     file: u32,
     item: &Item,
+    text: &[u8],
 ) -> Result<(), ReaderFault>
-    requires file { file < files_of plan.now }
-    requires item { IsItemOf (kinds_of plan.now) (bytes_of plan.now file) item.now }
+    requires { NamesKindAmong (kinds_of plan.now) item.now }
     ensures ok { OnOk result (Gathers S.wrote sink.old
-        ((L.style style.now).line plan.now file item.now) sink.new) }
+        ((L.style style.now).line_with plan.now.table file item.now text.now) sink.new) }
     ensures part { IfErr result (λ fault. WrotePart (Gathers S.wrote) sink.old fault
-        ((L.style style.now).line plan.now file item.now) sink.new) }
+        ((L.style style.now).line_with plan.now.table file item.now text.now) sink.new) }
 {
     block.clear();
-    let Ok(goes_on) = style.push_start(block, plan, file, item) else {
+    let Ok(goes_on) = style.push_start(block, plan, file, item, text) else {
         return Err(ReaderFault::Memory);
     };
     if !goes_on {
         return sink.gather(block.as_slice());
     }
     sink.gather(block.as_slice())?;
-    gather_text(sink, item.text(plan.bytes(file)))?;
+    gather_text(sink, text)?;
     sink.gather(b"\n")?;
     Ok(())
 }

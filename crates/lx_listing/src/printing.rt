@@ -136,7 +136,7 @@ pub fn list_plan<T: Threads + Wait + Sync, W: Write>(
     let sink = Lent { writes, out };
     let (sink, answer) = match writes {
         LineWrites::EachLine => scan_to(rt, alloc, plan, workers, sink),
-        LineWrites::Whole => scan_gathered(rt, alloc, plan, workers, sink),
+        LineWrites::Whole | LineWrites::Flushed => scan_gathered(rt, alloc, plan, workers, sink),
     };
     // taken apart, so that the final contents of the writer are known
     let Lent {

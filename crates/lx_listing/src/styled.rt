@@ -287,7 +287,9 @@ pub fn list_plan_by<T: Threads + Wait + Sync, L: LineStyle + Drop, W: Write>(
     let sink = Lent { writes, out };
     let (sink, answer) = match writes {
         LineWrites::EachLine => list_by(rt, alloc, plan, workers, style, sink),
-        LineWrites::Whole => list_gathered_by(rt, alloc, plan, workers, style, sink),
+        LineWrites::Whole | LineWrites::Flushed => list_gathered_by(
+            rt, alloc, plan, workers, style, sink,
+        ),
     };
     // taken apart, so that the final contents of the writer are known
     let Lent {

@@ -15,6 +15,8 @@ pub enum LineWrites {
     EachLine,
     /// The whole block in one write.
     Whole,
+    /// The whole block in one write, and then a flush, so that nothing waits in the writer.
+    Flushed,
 }
 
 // Writes bytes. A write of 0 bytes or an error is a fault. After it, a prefix was written.
@@ -57,6 +59,19 @@ fn write_each<W: Write>(out: &mut W, block: &[u8]) -> Result<(), ReaderFault>
     Ok(())
 }
 
+// Writes a block, and flushes the writer.
+fn write_flushed<W: Write>(out: &mut W, block: &[u8]) -> Result<(), ReaderFault>
+    ensures ok { OnOk result (Appends (W.contents out.old) (W.contents out.new) block.now) }
+    ensures err { OnErr result (AppendsPrefix (W.contents out.old) (W.contents out.new) block.now) }
+    ensures device { IfErr result (λ fault. fault ≡ ReaderFault.Device) }
+{
+    write_whole(out, block)?;
+    match out.flush() {
+        Ok(()) => Ok(()),
+        Err(_) => Err(ReaderFault::Device),
+    }
+}
+
 /// Writes a block of lines. After a fault, a prefix of it was written.
 pub fn write_block<W: Write>(
     out: &mut W,
@@ -70,5 +85,6 @@ pub fn write_block<W: Write>(
     match writes {
         LineWrites::EachLine => write_each(out, block),
         LineWrites::Whole => write_whole(out, block),
+        LineWrites::Flushed => write_flushed(out, block),
     }
 }

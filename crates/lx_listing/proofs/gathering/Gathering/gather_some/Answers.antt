@@ -9,8 +9,8 @@ use Rattle.lx_listing.proofs.HandedOn.{none_placed, part_by_style, part_of_item,
 use Rattle.lx_listing.proofs.Parting.{part_first}
 use Rattle.lx_listing.proofs.gathering.Gathering.gather_some.Goals as goal
 
-pub returns-in_err-gather_line-clause-part : goal.returns-in_err-gather_line-clause-part
-returns-in_err-gather_line-clause-part g c =
+pub returns-in_err-gather_item-clause-part : goal.returns-in_err-gather_item-clause-part
+returns-in_err-gather_item-clause-part g c =
     let p = err_from_is_err_and c.from_residual.result c.from_residual.ensures.1 in
     let style = g.L.LineStyle.style c.args.draft.now.style in
     let lines = style.line c.args.plan.now c.args.file in
@@ -20,8 +20,8 @@ returns-in_err-gather_line-clause-part g c =
     let placed = c.place_lines-count in
     let none = placed.ensures.lines ∙ ap (λ (n : ℕ). s.held ++ lines_by style c.args.plan.now c.args.file (take n items)) c.if-count-eq0.true in
     let same = none_placed (gathered s.held s.has_failed s.sink) placed.new.buffer none ∙ c.self.view_is in
-    rw p.1 (subst (λ (fault : ReaderFault). WrotePart (Gathers g.S.LineSink.wrote) c.args.self.now fault (lines_by style c.args.plan.now c.args.file items) c.gather_line.new.self) (sym p.2)
-    (part_same (Gathers g.S.LineSink.wrote) c.args.self.now (gathered placed.new.buffer s.has_failed s.sink) c.gather_line.new.self _ (lines_by style c.args.plan.now c.args.file items) same
-    (part_first (Gathers g.S.LineSink.wrote) lines items _ (gathered placed.new.buffer s.has_failed s.sink) c.gather_line.new.self _ c.requires.some
-    (part_of_item (Gathers g.S.LineSink.wrote) lines (gathered placed.new.buffer s.has_failed s.sink) c.gather_line.new.self _ _ _ c.index-items-0.is
-    (part_by_style (Gathers g.S.LineSink.wrote) g.L.LineStyle.style _ _ c.args.plan.now c.args.file _ (gathered placed.new.buffer s.has_failed s.sink) c.gather_line.new.self _ kept c.in_err-gather_line.ensures.part)))))
+    rw p.1 (subst (λ (fault : ReaderFault). WrotePart (Gathers g.S.LineSink.wrote) c.args.self.now fault (lines_by style c.args.plan.now c.args.file items) c.gather_item.new.self) (sym p.2)
+    (part_same (Gathers g.S.LineSink.wrote) c.args.self.now (gathered placed.new.buffer s.has_failed s.sink) c.gather_item.new.self _ (lines_by style c.args.plan.now c.args.file items) same
+    (part_first (Gathers g.S.LineSink.wrote) lines items _ (gathered placed.new.buffer s.has_failed s.sink) c.gather_item.new.self _ c.requires.some
+    (part_of_item (Gathers g.S.LineSink.wrote) lines (gathered placed.new.buffer s.has_failed s.sink) c.gather_item.new.self _ _ _ c.index-items-0.is
+    (part_by_style (Gathers g.S.LineSink.wrote) g.L.LineStyle.style _ _ c.args.plan.now c.args.file _ (gathered placed.new.buffer s.has_failed s.sink) c.gather_item.new.self _ kept c.in_err-gather_item.ensures.part)))))
