@@ -11,7 +11,8 @@ REFERENCE_LINES = 150
 # These need more: a row for each construct beside a whole program, and test vectors.
 LONGER = {"FLEX.md": 175, "TABLES.md": 250}
 WORDS_OF_A_SENTENCE = 40
-BEGINNING = re.compile(r"^\s*//[/!]? (Whether|What|How|Where|Who|Of)\b", re.M)
+COMMENT = re.compile(r"//|--")
+QUESTION = r"(//[/!]?|--+) +(Whether|What|How|Where|Who|Of)\b"
 
 
 def prose_of(text):
@@ -54,9 +55,14 @@ class Pages(Case):
 
 
 class Comments(Case):
+    def questions(self, text):
+        """Returns the lines of comments that begin with a question: in small letters too, if the comment begins there."""
+        lines = [line.strip() for line in text.splitlines()]
+        return [line for before, line in zip(["", *lines], lines) if re.match(QUESTION, line, 0 if COMMENT.match(before) else re.I)]
+
     def test_beginnings(self):
-        for path in sorted(TOP.glob("crates/*/src/**/*.rt")):
-            found = [line.strip() for line in path.read_text().splitlines() if BEGINNING.match(line)]
+        for path in sorted([*TOP.glob("crates/*/src/**/*.rt"), *TOP.glob("crates/*/specs/**/*.antt"), *TOP.glob("crates/*/proofs/**/*.antt")]):
+            found = self.questions(path.read_text())
             self.check(str(path.relative_to(TOP)), not found, f"a comment begins with a question: {found[:1]}")
 
 

@@ -59,7 +59,7 @@ module _ (spec : PlainSpec) (leaves : List PlainLeaf) (classes representatives :
         ∙ get_or-append_right (replicate (2 * length spec.conditions) None) labels (2 * length spec.conditions) (start_count spec + j) None starts (omega arith)
         ∙ ap (λ i. get_or labels i None) behind
 
-    -- what is accepted is below the bound of the labels
+    -- each accepted rule is below the bound of the labels
     label_below : (n : ℕ) → AreAllBelow labels n → (s r : ℕ) → accepted_by m s ≡ Some r → r < n
     label_below n below s r e = elim (cases_lt s (start_count spec)) [
       | inl low ↦ absurd (let f : None ≡ Some r = sym (accepted_start s low) ∙ e in cc)

@@ -64,7 +64,7 @@ abbrev pub AreEnds : ℕ → List ℕ → ℕ → Type 0
 AreEnds from [] last = from ≡ last
 AreEnds from (end ∷ ends) last = (from ≤ end) × AreEnds end ends last
 
--- where the list with this number begins
+-- the start of the list with this number
 abbrev pub begin_of : ℕ → List ℕ → ℕ → ℕ
 begin_of from ends zero = from
 begin_of from ends (suc k) = slice_index ends k

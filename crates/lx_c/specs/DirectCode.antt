@@ -14,7 +14,7 @@ use Rattle.lx_c.specs.Words.{rule_word}
 use Rattle.lx_c.specs.Templates.{either, filled, number_then, numbered}
 use Rattle.lx_c.specs.declared.direct_templates.TheConstants.{MARKS, MAY_BE_EMPTY, NONE_IS_EMPTY, BEGIN_MATCH, AT_LINE_BEGIN, BEHIND_LINE_END, GOTO_STATE, BEGIN_STATES, STATE_LABEL, LOOP, RANGES, LOOP_RULE, AT_END, FIRST, NEWLINE, GO, OTHER, GOTO_RULE, BACK, GOTO_RULE_OF, NO_RULE, RULE_LABEL, MATCHED, SKIPPED, END_MATCH}
 
--- ---- what a state does
+-- ---- the code of a state
 
 -- true if there is a step, and it leads to the wanted state, if one is
 abbrev pub leads : Option ℕ → Option ℕ → Bool
@@ -22,12 +22,12 @@ leads wanted None = false
 leads None (Some t) = true
 leads (Some s) (Some t) = t == s
 
--- how many numbers below n pass a test
+-- the number of numbers below n that pass a test
 abbrev pub count_below : (ℕ → Bool) → ℕ → ℕ
 count_below test zero = 0
 count_below test (suc n) = count_below test n + (if test n then 1 else 0)
 
--- on how many classes a state has such a step
+-- the number of classes on which a state has such a step
 abbrev pub step_count : Machine → ℕ → Option ℕ → ℕ
 step_count m s wanted = count_below (λ class. leads wanted (class_target m s class)) m.width
 

@@ -54,7 +54,7 @@ agree p t e q h = sym (contains_where p q h) ∙ (ap (λ s. byte_sets.contains s
 pub own_bytes : (test : ℕ → Bool) → bytes_where test ≡ bytes_where (λ b. byte_sets.contains (bytes_where test) b)
 own_bytes test = same_where test (λ b. byte_sets.contains (bytes_where test) b) (λ q lt. sym (contains_where test q lt))
 
--- A set is filled byte by byte with those of another one: before the first byte, behind one that it has, behind one that it hasn't, and behind the last.
+-- A set is filled byte by byte with those of another one: before the first byte, after one that it has, after one that it hasn't, and after the last.
 abbrev pub filled : (other own : ℕ → Bool) → ℕ → byte_sets.FinSet nat_cmp
 filled other own n = bytes_where (λ b. (nat_lt b n && other b) || own b)
 

@@ -1,4 +1,4 @@
--- What was read of a line, put together from its parts.
+-- The reading of a line, put together from its parts.
 use Rattle.std.proofs.Common.{ℕ, ◌≡◌, Bool, true, false, List, [], length, drop, refl, sym, subst, ◌∙◌, ap, ap₂}
 use Rattle.std.specs.Prelude.{if◌then◌else◌}
 use Rattle.lx_ere.specs.Brackets.{begins_with}

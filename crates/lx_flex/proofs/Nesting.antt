@@ -10,7 +10,7 @@ use Rattle.lx_flex.proofs.JoinedLists.{active_joined}
 abbrev pub Given : Type 0
 Given = List (Option (List ℕ))
 
--- What is still to be read of the innermost section, up to the `}` of its scope, and then of those around it, gives these conditions.
+-- The rest of the innermost section, up to the `}` of its scope, and then of those around it, gives these conditions.
 abbrev pub WillRead : List (List ℕ) → Bool → List (List ℕ) → List ℕ → Given → List ℕ → Type 0
 WillRead declared first [] text to_come rest = (section : Section) × Reads declared first text section rest × (to_come ≡ active (length declared) [] section)
 WillRead declared first (around ∷ outer) text to_come rest =

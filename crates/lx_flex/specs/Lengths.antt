@@ -17,7 +17,7 @@ SaysEmpty tree flag = IsTrue (has_ordered_bounds tree) → IsTrue flag ↔ Match
 abbrev pub HasNoNewline : Regex → Type 0
 HasNoNewline tree = (w : List ℕ) → Matches no_names tree w → All (λ b. b ≡ 10 → ⊥) w
 
--- ---- what is found by the form of an expression
+-- ---- lengths by the form of an expression
 
 abbrev pub some_if : Bool → ℕ → Option ℕ
 some_if true n = Some n

@@ -1,4 +1,4 @@
--- What reading a rules section keeps: the place in the text, the open scopes, and the conditions of the rules so far.
+-- The state of reading a rules section: the place in the text, the open scopes, and the conditions of the rules before it.
 use Rattle.std.specs.Prelude.{◌≡◌, if◌then◌else◌, ℕ, Bool, false, List, [], ◌∷◌, ◌++◌, Option, length, drop, map, reverse}
 use Rattle.std.specs.Option.{option_map}
 use Rattle.lx_flex.specs.declared.cursor.TextCursor.{TextCursor}
@@ -59,7 +59,7 @@ pub record IsClosed (old new : State) : Type 0 where
   pub first : new.first ≡ old.first
   pub given : new.given ≡ old.given
 
--- what a line does
+-- the effect of a line
 abbrev pub Does : ℕ → Line → State → State → Type 0
 Does count code old new = new ≡ old
 Does count (plain own) old new = new ≡ with_rule count own (begun old)

@@ -46,7 +46,7 @@ others_none fold (Some f) e = absurd (no_none (members_set fold (f.0 ∷ f.1), f
 abbrev ListAndText : Type 0
 ListAndText = List Member × List ℕ
 
--- a first member, and those behind it
+-- a first member, and those after it
 pub first_and_more : (fold : Bool) (text rest : List ℕ) (m : Member) (members : List Member) (o : Option ListAndText) → member_at true fold text ≡ Some (m, rest) → members ≡ m ∷ [] →
     o ≡ option_map {U = ListAndText} (λ g. (members ++ g.0, g.1)) (all_items_at (member_at false fold) 93 rest) → o ≡ option_map {U = ListAndText} (λ g. (g.0 ∷ g.1, g.2)) (members_at fold text)
 first_and_more fold text rest m members o at one e =

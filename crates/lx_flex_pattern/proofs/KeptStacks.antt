@@ -125,7 +125,7 @@ finish_kept w k h = by_below w.below k.below h.below
     by_below _ _ no_frames = total_kept w.top k.top h.top
     by_below _ _ (one_frame_more f g fs gs i j) = keeps_none
 
--- What is kept says what is written.
+-- The kept stack determines the written one.
 pub written_stack : (x : Option Stack) (y : Option Stack) (k : Stack) → y ≡ Some k → AreKeptStacks x y → (w : Stack) × (x ≡ Some w) × IsKeptStack w k
 written_stack _ _ k e no_stack = absurd (cc)
 written_stack _ _ k e (a_stack w h m) = let same : h ≡ k = cc in (w, refl, subst (IsKeptStack w) same m)
@@ -163,7 +163,7 @@ then_one ls l None x h = absurd (no_none x h)
 then_one [] l (Some s) x h = alone (step l s) ∙ ap (step l) (same_some s x h)
 then_one (y ∷ ls) l (Some s) x h = then_one ls l (step y s) x h
 
--- lexemes, and one behind them
+-- lexemes, and one after them
 pub takes_one_more : (ls : List Lexeme) (l : Lexeme) (g h : Stack) (o : Option Stack) → run ls g ≡ Some h → ((w : Stack) → IsKeptStack w h → AreKeptStacks (step l w) o) → Takes (ls ++ l ∷ []) g o
 takes_one_more ls l g h o e f w kept =
     let (x, at, is) = written_stack (run ls w) (run ls g) h e (run_kept ls w g kept) in

@@ -13,7 +13,7 @@ nil_right : (w : List ℕ) → w ++ [] ≡ w
 nil_right [] = refl
 nil_right (b ∷ w) = ap (λ x. b ∷ x) (nil_right w)
 
--- the first i repetitions, and the j behind them
+-- the first i repetitions, and the j after them
 parted : (L : Texts) (i j : ℕ) (w : List ℕ) → Repeats L (i + j) w → Splits (Repeats L i) (Repeats L j) w
 parted L zero j w h = ([], w, refl, subst (λ (n : ℕ). Repeats L n w) (let e : 0 + j ≡ j = omega arith in e) h, refl)
 parted L (suc i) j w h =
@@ -28,7 +28,7 @@ joined L (suc i) j u v hu hv =
     subst (λ (n : ℕ). Repeats L n (u ++ v)) (let e : suc (i + j) ≡ suc i + j = omega arith in e) (x, y ++ v, hx, joined L i j y v hy hv, ap (λ z. z ++ v) is ∙ append_assoc x y v)
 
 module _ (L M : Texts) (into : (w : List ℕ) → Repeats L 64 w → M w) (back : (w : List ℕ) → M w → Repeats L 64 w) where
-  -- t blocks of 64 repetitions, and the j behind them
+  -- t blocks of 64 repetitions, and the j after them
   in_blocks : (t j : ℕ) (w : List ℕ) → Repeats L (t * 64 + j) w → Splits (Repeats M t) (Repeats L j) w
   in_blocks zero j w h = ([], w, refl, subst (λ (n : ℕ). Repeats L n w) (let e : 0 * 64 + j ≡ j = omega arith in e) h, refl)
   in_blocks (suc t) j w h =

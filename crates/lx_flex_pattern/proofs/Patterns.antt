@@ -47,7 +47,7 @@ no_dollar o names text tree last reads none _ (with_context _ _ _ t w m l n g h 
     let same = one_alternation o names (start o text) t reads.written at_slash at_dollar m last g reads.reads in
     let stop : at_slash ≡ at_dollar = same.1 in absurd (cc)
 
--- if a `/` is read, and behind it no alternation up to the end
+-- if a `/` is read, and after it no alternation up to the end
 pub no_context : (o : PatternOptions) (names : Names) (text : List ℕ) (tree : Regex) (middle : Place) → ReadsKept o names (start o text) tree at_slash middle →
     ((t : Regex) (last : Place) (n : ℕ) → Reads o names middle t at_end last → EndsAt text n last → ⊥) → (r : FlexReading) → IsFlexPattern o names text r → ⊥
 no_context o names text tree middle reads none _ (plain _ _ _ t l n g a) =
@@ -60,7 +60,7 @@ no_context o names text tree middle reads none _ (with_context _ _ _ t w m l n g
     let same = one_alternation o names (start o text) t reads.written at_slash at_slash m middle g reads.reads in
     none w l n (subst (λ p. Reads o names p w at_end l) same.2 h) a
 
--- behind the `/` another alternation is read: it has another stop, or its end isn't in the text itself
+-- after the `/` another alternation is read: it has another stop, or its end isn't in the text itself
 pub no_other : (o : PatternOptions) (names : Names) (text : List ℕ) (middle : Place) (tree : Regex) (stop : Stop) (last : Place) → ReadsKept o names middle tree stop last →
     (stop ≡ at_end → (n : ℕ) → EndsAt text n last → ⊥) → (t : Regex) (l : Place) (n : ℕ) → Reads o names middle t at_end l → EndsAt text n l → ⊥
 no_other o names text middle tree stop last reads none t l n g a =

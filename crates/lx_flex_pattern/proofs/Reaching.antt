@@ -45,7 +45,7 @@ module _ (o : PatternOptions) (names : List ℕ → Option Definition) where
     follows = λ k. let e : 0 + k ≡ k = omega arith in ap (λ n. row n o names p) e ∙ sym (before_none (row k o names p));
   }
 
-  -- one more part, behind which the row goes on at the place `next`
+  -- one more part, after which the row goes on at the place `next`
   reach_part : (from here next : Place) (g h : Stack) (ls : List Lexeme) → ((k : ℕ) → row (suc k) o names here ≡ before ls (row k o names next)) → Takes ls g (Some h) →
       Reached o names from g here → Reached o names from h next
   reach_part from here next g h ls goes_on takes r =
@@ -61,7 +61,7 @@ module _ (o : PatternOptions) (names : List ℕ → Option Definition) where
             ap (λ n. row n o names from) e ∙ (r.follows (suc k) ∙ (ap (before r.read) (goes_on k) ∙ before_both r.read ls (row k o names next)));
       }
 
-  -- an interval behind lexemes
+  -- an interval after lexemes
   pub reach_interval : (from here : Place) (g h : Stack) (ls : List Lexeme) (st : State) (rest : List ℕ) → piece_at o names here.state here.text ≡ goes ls st rest → Takes ls g (Some h) →
       Reached o names from g here → Reached o names from h (behind_part here st rest)
   reach_interval from here g h ls st rest e takes r = reach_part from here (behind_part here st rest) g h ls (λ k. ap (row_of (row k o names) here) e) takes r

@@ -8,7 +8,7 @@ use Rattle.lx_flex_pattern.specs.declared.options.PatternOptions.{PatternOptions
 use Rattle.lx_flex_pattern.specs.Lexing.{Definition, Piece, goes, inserts, ends, ends_line, slash, wrong, piece_at, initial}
 use Rattle.lx_flex_pattern.specs.Reading.{Place, place, behind_part, at_text, Stop, at_end, at_dollar, at_slash, before, row_of, row, Lexes, Reads, FlexReading, EndsAt, IsFlexPattern, plain, with_dollar, with_context}
 
--- a row: its lexemes, its stop, and the place behind it
+-- a row: its lexemes, its stop, and the place after it
 abbrev pub Row : Type 0
 Row = List Lexeme × Stop × Place
 

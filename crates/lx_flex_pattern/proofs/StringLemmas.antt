@@ -7,7 +7,7 @@ use Rattle.lx_ere.specs.Grammar.{Lexeme, set_of, open_group, close_group}
 use Rattle.lx_flex_pattern.specs.Lexing.{string_lexemes}
 use Rattle.lx_flex_pattern.specs.Sets.{byte_set}
 
--- the lexemes of the bytes, behind the opening one
+-- the lexemes of the bytes, after the opening one
 abbrev pub opened : Bool → List ℕ → List Lexeme
 opened fold bytes = open_group ∷ map (λ c. set_of (byte_set fold c)) bytes
 

@@ -1,5 +1,5 @@
--- How a tree is kept. flex takes intervals with any bounds, and a tree of lx has bounds up to 255. So an interval with a greater bound is kept as two: one repeats `r{64}`, and one
--- behind it repeats `r`. They match the same texts (`kept_trees_mean_the_same`). All other parts of a tree stay as they are written.
+-- Kept trees. flex takes intervals with any bounds, and a tree of lx has bounds up to 255. So an interval with a greater bound is kept as two: one repeats `r{64}`, and one
+-- after it repeats `r`. They match the same texts (`kept_trees_mean_the_same`). All other parts of a tree stay as they are written.
 use Rattle.std.specs.Prelude.{◌≡◌, ℕ, ◌+◌, ◌*◌, ◌<◌, ◌≤◌, Bool, true, ◌&&◌, nat_le, Option, Some, None, List}
 use Rattle.std.specs.Ordering.{nat_cmp}
 use Rattle.std.specs.FinSet as set

@@ -40,9 +40,9 @@ initial o = record { flags = record { fold = o.fold; dot_all = false; extended =
 
 -- the next part
 pub data Piece : Type 0 where
-  -- lexemes; the state and the text behind them
+  -- lexemes; the state and the text after them
   goes : List Lexeme → State → List ℕ → Piece
-  -- lexemes, and a definition's text that is read next, before the text behind it
+  -- lexemes, and a definition's text that is read next, before the text after it
   inserts : List Lexeme → State → (front rest : List ℕ) → Piece
   -- lexemes, and the end of the pattern
   ends : List Lexeme → State → List ℕ → Piece
@@ -60,7 +60,7 @@ flushed (brackets s) = Some (set_of s ∷ [])
 flushed (without s) = None
 flushed (with s) = None
 
--- a part behind the brackets that wait
+-- a part after the brackets that wait
 abbrev pub behind : Option (List Lexeme) → (List Lexeme → Piece) → Piece
 behind None make = wrong
 behind (Some ls) make = make ls
@@ -117,7 +117,7 @@ abbrev pub brackets_piece : State → Option (set.FinSet nat_cmp × List ℕ) �
 brackets_piece st None = wrong
 brackets_piece st (Some f) = joined st st.pending f.0 f.1
 
--- `{-}` or `{+}` behind brackets
+-- `{-}` or `{+}` after brackets
 abbrev pub operates : State → Pending → (set.FinSet nat_cmp → Pending) → List ℕ → Piece
 operates st nothing make rest = wrong
 operates st (brackets s) make rest = goes [] (waits st (make s)) rest
@@ -128,12 +128,12 @@ operates st (with s) make rest = wrong
 abbrev pub period_set : Bool → set.FinSet nat_cmp
 period_set dot_all = bytes_where (λ b. dot_all || not (is_between 10 10 b))
 
--- the text behind the next `)`
+-- the text after the next `)`
 abbrev pub behind_paren : List ℕ → Option (List ℕ)
 behind_paren [] = None
 behind_paren (c ∷ text) = if nat_eq c 41 then Some text else behind_paren text
 
--- the text behind the next `*/`
+-- the text after the next `*/`
 abbrev pub behind_comment : List ℕ → Option (List ℕ)
 behind_comment [] = None
 behind_comment (c ∷ text) = if nat_eq c 42 && begins_with 47 text then Some (drop 1 text) else behind_comment text
@@ -146,7 +146,7 @@ with_flag flags c on =
     else if nat_eq c 120 then Some (record { fold = flags.fold; dot_all = flags.dot_all; extended = on })
     else None
 
--- the flags that are switched on, and behind a `-` off, up to the colon
+-- the flags that are switched on, and after a `-` off, up to the colon
 abbrev pub flags_at : Flags → Bool → List ℕ → Option (Flags × List ℕ)
 flags_at flags on [] = None
 flags_at flags on (c ∷ text) =
@@ -161,14 +161,14 @@ abbrev pub opens_with : State → Option (Flags × List ℕ) → Piece
 opens_with st None = wrong
 opens_with st (Some f) = opens st f.0 f.1
 
--- a group, starting behind its `(`; or the comment `(?# )`
+-- a group, starting after its `(`; or the comment `(?# )`
 abbrev pub group_piece : PatternOptions → State → List ℕ → Piece
 group_piece o st text =
     if o.posix || not (begins_with 63 text) then opens st st.flags text
     else if begins_with 35 (drop 1 text) then skips st (behind_paren (drop 2 text))
     else opens_with st (flags_at st.flags true (drop 1 text))
 
--- the end of a group, behind which the flags are those before it
+-- the end of a group, after which the flags are those before it
 abbrev pub closes : State → List Flags → List ℕ → Piece
 closes st [] rest = wrong
 closes st (flags ∷ outer) rest = behind (flushed st.pending) (λ ms. goes (ms ++ close_group ∷ []) (in_group st flags outer) rest)
@@ -227,7 +227,7 @@ abbrev pub interval_piece : PatternOptions → State → Option ((ℕ × Option 
 interval_piece o st None = wrong
 interval_piece o st (Some f) = takes st ((if o.posix then interval f.0.0 f.0.1 else repeat f.0.0 f.0.1) ∷ []) f.1
 
--- what a brace opens
+-- an interval, a name, or `{-}` or `{+}`, from its brace on
 abbrev pub brace_piece : PatternOptions → (List ℕ → Option Definition) → State → List ℕ → Piece
 brace_piece o names st text =
     if begins_pair 45 125 text then operates st st.pending without (drop 2 text)

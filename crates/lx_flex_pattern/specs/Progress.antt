@@ -1,4 +1,4 @@
--- How far a pattern was read.
+-- Progress in reading a pattern.
 use Rattle.std.specs.Prelude.{◌≡◌, ℕ, ◌+◌, List, [], Option, Some}
 use Rattle.lx_ere.specs.Grammar.{Lexeme}
 use Rattle.lx_ere.specs.Groups.{groups_of}
@@ -43,7 +43,7 @@ pub record Stopped (o : PatternOptions) (names : List ℕ → Option Definition)
   pub kept : IsKeptStack written groups
   pub lexed : Lexes o names from read stop last
 
--- what follows parts that were read: the stack and the next place, or the stack, the stop and the place behind it
+-- the outcome of parts that were read: the stack and the next place, or the stack, the stop and the place after it
 pub data Outcome : Type 0 where
   arrives : Stack → Place → Outcome
   halts : Stack → Stop → Place → Outcome
@@ -52,7 +52,7 @@ abbrev pub end_of : code_end.RowEnd → Outcome
 end_of (ends.Inserts groups next) = arrives (groups_of groups) (place_of next)
 end_of (ends.Stops groups stop last) = halts (groups_of groups) (stop_of stop) (place_of last)
 
--- The same of one part, behind which the row goes on or not.
+-- The same of one part, after which the row goes on or not.
 abbrev pub outcome_of : code_part.RowPart → Outcome
 outcome_of (part.Goes groups state inserted rest) = arrives (groups_of groups) (place (state_of state) inserted rest.now)
 outcome_of (part.Done end) = end_of end

@@ -15,15 +15,15 @@ pub record Place : Type 0 where
 abbrev pub place : State → ℕ → List ℕ → Place
 place st n text = record { state = st; inserted = n; text = text }
 
--- the place behind a part, from which on this is the text
+-- the place after a part, from which on this is the text
 abbrev pub behind_part : Place → State → List ℕ → Place
 behind_part p st rest = place st (p.inserted - (length p.text - length rest)) rest
 
--- the place behind a definition's name, at its text
+-- the place after a definition's name, at its text
 abbrev pub at_text : Place → State → List ℕ → List ℕ → Place
 at_text p st front rest = place st (length front + (p.inserted - (length p.text - length rest))) (front ++ rest)
 
--- what ends a row of parts: the end of the pattern, a `$` before it, or a `/`
+-- the end of a row of parts: the end of the pattern, a `$` before it, or a `/`
 pub data Stop : Type 0 where
   at_end : Stop
   at_dollar : Stop
@@ -32,7 +32,7 @@ pub data Stop : Type 0 where
 abbrev pub before : List Lexeme → Option (List Lexeme × Stop × Place) → Option (List Lexeme × Stop × Place)
 before ls row = option_map (λ r. (ls ++ r.0, r.1, r.2)) row
 
--- the lexemes of a part, before those of the row behind it
+-- the lexemes of a part, before those of the row after it
 abbrev pub row_of : (Place → Option (List Lexeme × Stop × Place)) → Place → Piece → Option (List Lexeme × Stop × Place)
 row_of next p (goes ls st rest) = before ls (next (behind_part p st rest))
 row_of next p (inserts ls st front rest) = before ls (next (at_text p st front rest))
@@ -41,7 +41,7 @@ row_of next p (ends_line ls st rest) = Some (ls, at_dollar, behind_part p st res
 row_of next p (slash ls st rest) = Some (ls, at_slash, behind_part p st rest)
 row_of next p wrong = None
 
--- the lexemes of a row of at most k parts, its stop, and the place behind it
+-- the lexemes of a row of at most k parts, its stop, and the place after it
 abbrev pub row : ℕ → PatternOptions → (List ℕ → Option Definition) → Place → Option (List Lexeme × Stop × Place)
 row zero o names p = None
 row (suc k) o names p = row_of (row k o names) p (piece_at o names p.state p.text)
@@ -57,7 +57,7 @@ pub record Reads (o : PatternOptions) (names : List ℕ → Option Definition) (
   pub lexed : Lexes o names p lexemes stop last
   pub alternation : IsAlternation lexemes tree
 
--- a pattern: its anchors, its tree, that of the trailing context behind a `/`, and its number of bytes
+-- a pattern: its anchors, its tree, that of the trailing context after a `/`, and its number of bytes
 pub record FlexReading : Type 0 where
   pub line_begin : Bool
   pub line_end : Bool

@@ -1,4 +1,4 @@
--- The spelling at the front of a flex pattern's text, by computation (flex's manual, "Patterns"). Each function gives what is spelled and the text behind it,
+-- The spelling at the front of a flex pattern's text, by computation (flex's manual, "Patterns"). Each function gives what is spelled and the text after it,
 -- or None if nothing of the kind is spelled.
 use Rattle.std.specs.Prelude.{codes, ℕ, Bool, true, false, not, ◌&&◌, ◌||◌, nat_eq, nat_le, if◌then◌else◌, List, [], ◌∷◌, length, take, drop, is_some, Option, Some, None}
 use Rattle.std.specs.Option.{option_map, option_and_then}
@@ -11,7 +11,7 @@ use Rattle.lx_ere.specs.Lexing.{run_len, number_at, behind_byte, begins_pair, op
 use Rattle.lx_ere.specs.Spelling.{is_name_start, is_name_byte}
 use Rattle.lx_flex_pattern.specs.Sets.{is_letter, Member, range, among, outside, members_set, others_set}
 
--- A byte behind a backslash, if it isn't a letter with a meaning: one to three octal digits; `x` and at most two hexadecimal digits, 0 if there is none; any
+-- A byte after a backslash, if it isn't a letter with a meaning: one to three octal digits; `x` and at most two hexadecimal digits, 0 if there is none; any
 -- other byte but a newline for itself. The digits spell a byte.
 abbrev pub unlettered_at : ℕ → List ℕ → Option (ℕ × List ℕ)
 unlettered_at c text =
@@ -24,7 +24,7 @@ abbrev pub letter_or_other : Option ℕ → ℕ → List ℕ → Option (ℕ × 
 letter_or_other (Some byte) c text = Some (byte, text)
 letter_or_other None c text = unlettered_at c text
 
--- the byte of an escape, starting behind the backslash
+-- the byte of an escape, starting after the backslash
 abbrev pub escape_at : List ℕ → Option (ℕ × List ℕ)
 escape_at [] = None
 escape_at (c ∷ text) = letter_or_other (letter_byte c) c text
@@ -34,7 +34,7 @@ abbrev pub point_at : List ℕ → Option (ℕ × List ℕ)
 point_at [] = None
 point_at (c ∷ text) = if nat_eq c 92 then escape_at text else if nat_eq c 10 then None else Some (c, text)
 
--- the bytes of a quoted string, starting behind its opening quote
+-- the bytes of a quoted string, starting after its opening quote
 abbrev pub string_at : List ℕ → Option (List ℕ × List ℕ)
 string_at text = all_items_at point_at 34 text
 
@@ -49,11 +49,11 @@ starts_name (c ∷ text) = is_name_start c
 abbrev pub name_of : ℕ → List ℕ → Option (List ℕ × List ℕ)
 name_of n text = if starts_name text then option_map (λ behind. (take n text, behind)) (behind_byte 125 (drop n text)) else None
 
--- a definition's name and the closing brace, starting behind the opening one
+-- a definition's name and the closing brace, starting after the opening one
 abbrev pub name_at : List ℕ → Option (List ℕ × List ℕ)
 name_at text = name_of (run_len is_inner_name_byte (length text) text) text
 
--- the number that the first n digits spell, and the text behind them
+-- the number that the first n digits spell, and the text after them
 abbrev pub bound_of : ℕ → List ℕ → Option (ℕ × List ℕ)
 bound_of n text = if nat_eq n 0 then None else Some (number_of 10 (take n text), drop n text)
 
@@ -61,7 +61,7 @@ bound_of n text = if nat_eq n 0 then None else Some (number_of 10 (take n text),
 abbrev pub bound_at : List ℕ → Option (ℕ × List ℕ)
 bound_at text = bound_of (run_len (is_digit 10) (length text) text) text
 
--- the end of an interval behind its comma: at least this many, or from one number to another, of which the last isn't 0
+-- the end of an interval after its comma: at least this many, or from one number to another, of which the last isn't 0
 abbrev pub high_at : ℕ → ℕ × List ℕ → Option ((ℕ × Option ℕ) × List ℕ)
 high_at low f = if nat_le low f.0 && not (nat_eq f.0 0) then option_map (λ behind. ((low, Some f.0), behind)) (behind_byte 125 f.1) else None
 
@@ -75,18 +75,18 @@ behind_low_at f =
     if begins_with 125 f.1 then (if nat_eq f.0 0 then None else Some ((f.0, Some f.0), drop 1 f.1))
     else option_and_then (behind_comma_at f.0) (behind_byte 44 f.1)
 
--- the bounds of an interval and the closing brace, starting behind the opening one
+-- the bounds of an interval and the closing brace, starting after the opening one
 abbrev pub interval_at : List ℕ → Option ((ℕ × Option ℕ) × List ℕ)
 interval_at text = option_and_then behind_low_at (bound_at text)
 
--- the name of a class and its `:]`, starting behind `[:` or `[:^`
+-- the name of a class and its `:]`, starting after `[:` or `[:^`
 abbrev pub class_of : ℕ → List ℕ → Option (List ℕ × List ℕ)
 class_of n text = if not (nat_eq n 0) && begins_pair 58 93 (drop n text) then Some (take n text, drop 2 (drop n text)) else None
 
 abbrev pub class_name_at : List ℕ → Option (List ℕ × List ℕ)
 class_name_at text = class_of (run_len is_letter (length text) text) text
 
--- the class at the start, of which the flag says that it has a `^`: its name, and the text behind it
+-- the class at the start, of which the flag says that it has a `^`: its name, and the text after it
 abbrev pub class_at : List ℕ → Option ((Bool × List ℕ) × List ℕ)
 class_at text =
     if begins_pair 91 58 text then
@@ -113,7 +113,7 @@ abbrev pub starts_range : List ℕ → Bool
 starts_range [] = false
 starts_range (c ∷ text) = nat_eq c 45 && ends_range text
 
--- the last byte of a range, starting behind its `-`: not another such `-`, and no class
+-- the last byte of a range, starting after its `-`: not another such `-`, and no class
 abbrev pub range_end_at : List ℕ → Option (ℕ × List ℕ)
 range_end_at text = if starts_range text || is_some (class_at text) then None else point_at text
 
@@ -135,7 +135,7 @@ class_or_bytes first fold (Some f) text = option_map (λ member. (member, f.1)) 
 abbrev pub member_at : (first fold : Bool) → List ℕ → Option (Member × List ℕ)
 member_at first fold text = class_or_bytes first fold (class_at text) text
 
--- The members, starting behind `[` or `[^`. The first may be a `]`.
+-- The members, starting after `[` or `[^`. The first may be a `]`.
 abbrev pub members_at : Bool → List ℕ → Option (Member × List Member × List ℕ)
 members_at fold text = opened_at (member_at true fold) (member_at false fold) 93 text
 
@@ -143,12 +143,12 @@ abbrev pub goes_on : List ℕ → Bool
 goes_on [] = false
 goes_on (c ∷ text) = not (nat_eq c 10)
 
--- a `^` at the start, with a byte but a newline behind it
+-- a `^` at the start, with a byte but a newline after it
 abbrev pub is_excluding : List ℕ → Bool
 is_excluding [] = false
 is_excluding (c ∷ text) = nat_eq c 94 && goes_on text
 
--- the set of brackets, starting behind the `[`
+-- the set of brackets, starting after the `[`
 abbrev pub brackets_at : Bool → List ℕ → Option (set.FinSet nat_cmp × List ℕ)
 brackets_at fold text =
     if is_excluding text then option_map (λ f. (others_set fold (f.0 ∷ f.1), f.2)) (members_at fold (drop 1 text))

@@ -73,7 +73,7 @@ only : (n c : ℕ) → Contains (n ∷ []) c → n ≡ c
 only n c (zero, below, is) = is
 only n c (suc k, below, is) = absurd (omega (arith, below))
 
--- ---- what reaches the whole text
+-- ---- the rules that reach the whole text
 
 module _ (rules : List FileRule) (spec : PlainSpec) (of : IsCutSpec rules spec) (i : ℕ) (part : Part) (text : List ℕ) (at : slice_get (parts_of rules) i ≡ Some part) where
   own-rule : slice_get spec.rules i ≡ Some (part_rule (1 + i) part)

@@ -111,7 +111,7 @@ block_at f wide len a (suc n) (suc j) k l h =
     ∙ (block_at f wide len (a + 1) n j k (omega (arith, l)) h ∙ ap (λ (s : ℕ). get_or (f s) k 0) (omega arith)))
 
 module _ (m : Machine) (h : IsMachine m) where
-  -- ---- what stands at a place
+  -- ---- the word at a place
 
   rule_of_word : (o : Option ℕ) → numbered_rule (rule_word o) ≡ o
   rule_of_word None = refl

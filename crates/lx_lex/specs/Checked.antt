@@ -1,4 +1,4 @@
--- What is checked of the rules and conditions of a specification before it is made.
+-- Checks of the rules and conditions of a specification before it is made.
 use Rattle.std.specs.Prelude.{ℕ, Bool, true, false, ◌&&◌, nat_lt, List, [], ◌∷◌}
 use Rattle.lx_ere.specs.Bounds.{has_ordered_bounds}
 use Rattle.lx_ere.specs.Regex.{Regex}

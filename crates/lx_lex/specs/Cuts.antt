@@ -8,7 +8,7 @@ use Rattle.lx_lex.specs.declared.outline.MatchCut.{MatchCut}
 use Rattle.lx_lex.specs.declared.outline.MatchCut.TheVariants.{Before, First, Varying, Whole}
 use Rattle.lx_rules.specs.Plain.{PlainRule, PlainSpec}
 
--- the trailing context of a reading: that behind a `/`, or the newline of a `$`
+-- the trailing context of a reading: that after a `/`, or the newline of a `$`
 abbrev pub context_or_newline : Option Regex → Bool → Option Regex
 context_or_newline (Some context) line_end = Some context
 context_or_newline None true = Some newline

@@ -1,4 +1,4 @@
--- Where the code of a state leads on a byte, by its loop and its tests in their order.
+-- The target of a state's code on a byte, by its loop and its tests in their order.
 use Rattle.std.specs.Prelude.{◌≡◌, ℕ, ◌<◌, ◌==◌, nat_lt, if◌then◌else◌, Option, Some, None}
 use Rattle.lx_automaton.specs.Automata.{Machine, state_count, target_of}
 use Rattle.lx_lex.specs.StateCode.{most_singles, other_target, set_target, set_word, single_count}

@@ -41,7 +41,7 @@ pub record IsBehindToken (m : Machine) (parts : EmptyParts) (token rest : List �
   pub at_state : reached_by m 3 rest ≡ state
   pub is_longest : NoneAccepted m (reached_by m 1 token) rest
 
--- what a reading knows of the text after the last text of r
+-- the facts of a reading about the text after the last text of r
 abbrev pub IsContextReading : Machine → EmptyParts → List ℕ → List ℕ → ContextReading → Type 0
 IsContextReading m parts token rest NotBegun = rest ≡ []
 IsContextReading m parts token rest Begins = (rest ≡ []) × IsToken m parts token

@@ -62,7 +62,7 @@ module _ (table : Table) (place : Place) (held : List ℕ) where
   pub silent_begun : (m : Machine) (state : ℕ) → state < state_count m → IsSilentSince m held 0 state 0 state
   silent_begun m state known = record { order = omega arith; known = known; silent = λ rest f. f }
 
-  -- ---- where a walk stops
+  -- ---- the end of a walk
   --  nothing more is accepted: the rule is decided
   pub walk_decided : (ended : Bool) (read state : ℕ) (last : Option (ℕ × ℕ)) → IsWalked table place held read state last → IsStopped table.machine held ended read state → IsDecided table place held ended last
   walk_decided ended read state last w stopped = record {
@@ -147,7 +147,7 @@ module _ (table : Table) (bytes : List ℕ) (ended : Bool) where
     failed = λ rest end. subst (λ (w : List ℕ). IsFailed table.machine w state) (behind start read rest within) (known table (bytes ++ rest) (is.is_memory rest end));
   }
 
-  -- what is remembered holds of each text
+  -- each remembered state is failed in each text
   pub remembered : (before after : ScanMemory) (at state : ℕ) → IsOpenMemory table bytes ended before → ((rest : List ℕ) → (ended ≡ true → rest ≡ []) → IsFailed table.machine (drop at (bytes ++ rest)) state) →
       ((t : Table) (text : List ℕ) → IsMemoryOf t text before → IsFailed t.machine (drop at text) state → IsMemoryOf t text after) → IsOpenMemory table bytes ended after
   remembered before after at state is failed keeps = record { is_memory = λ rest end. keeps table (bytes ++ rest) (is.is_memory rest end) (failed rest end) }

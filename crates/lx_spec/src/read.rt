@@ -88,7 +88,7 @@ pub fn read_spec(alloc: Global, text: &[u8]) -> Result<Spec, SpecFault>
     Ok(spec)
 }
 
-/// States a law: `pattern_end` is the only function that ends patterns as the grammar does. The definitions behind the contract of `read_spec` end
+/// States a law: `pattern_end` is the only function that ends patterns as the grammar does. The definitions that `read_spec`'s contract cites end
 /// patterns by it.
 pub fn patterns_end()
     ensures there { (text : List ℕ) → IsPatternEnd text (pattern_end text) }

@@ -22,7 +22,7 @@ use Rattle.lx_tool.specs.Printing.{IsPlaced, IsWritten}
 abbrev pub command_named : List ℕ → Option Bool
 command_named name = if pointwise nat_eq name (codes "lex") then Some true else (if pointwise nat_eq name (codes "flex") then Some false else None)
 
--- what follows the last `/` of a path, whose rest may still have some
+-- the part after the last `/` of a path, whose rest may still have some
 abbrev pub part_after : List ℕ → List ℕ → List ℕ
 part_after name [] = name
 part_after name (b ∷ rest) = part_after (if nat_eq b 47 then rest else name) rest
