@@ -35,7 +35,7 @@ pub record HasLines {S : Type 0} (wrote : S → List ℕ → S → Type 0) (styl
   pub goes_on : s.has_ended ≡ false
   pub lines : (whole : Planned) (rest : List ℕ) → whole.table ≡ s.table → bytes_of whole file ≡ front ++ rest → Gathers wrote start (lines_by style whole file given) now
 
--- These bytes of the file were taken, in blocks, and the lines of all items that they decide were gathered.
+-- These bytes of the file were taken, in blocks, and the lines of all items that the scanner gave were gathered. Which it gave isn't said.
 pub record TakesBytes {L S : Type 0} (style : L → Style) (wrote : S → List ℕ → S → Type 0) (old : Streamed L S) (bytes : List ℕ) (new : Streamed L S) : Type 0 where
   pub style_is : new.style ≡ old.style
   pub plan_is : new.plan ≡ old.plan
