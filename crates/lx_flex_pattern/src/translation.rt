@@ -1,8 +1,9 @@
 //! Translates flex patterns to texts that lx reads.
 
-ghost use Rattle.std.specs.Prelude.{◌≡◌, true, IfOk, IfSome};
+ghost use Rattle.std.specs.Prelude.{◌≡◌, ◌↔◌, true, IfOk, IfSome, IsTrue};
 ghost use Rattle.lx_ere.specs.Pattern.{IsPattern, IsSubstitute};
 ghost use Rattle.lx_ere.specs.Regex.{reading_of, regex_of};
+ghost use Rattle.lx_flex_pattern.specs.Mirror.{IsMirrored, Mirrors};
 ghost use Rattle.lx_flex_pattern.specs.Translation.{HaveSameTexts, IsReadAs, IsTranslation, IsSubstituteOf};
 
 use crate::fault::PatternFault;
@@ -34,16 +35,19 @@ fn read_back_substitute(alloc: Global, text: &[u8]) -> Result<Option<Expr>, Allo
     }
 }
 
-/// Returns true only if the tree that lx read has the same texts as the other one. Compares only trees of the same form.
+/// Returns true exactly if the tree that lx read has the form of the other one. Then both have the same texts.
+#[tactic(auto, using(crate::proofs::Mirroring::mirrors_decides, crate::proofs::SameTexts::mirrors_texts))]
 pub fn has_same_texts(tree: &Expr, read: &Expr) -> bool
-    ensures { result ≡ true → HaveSameTexts (regex_of tree.now) (regex_of read.now) }
+    ensures same { result ≡ true → HaveSameTexts (regex_of tree.now) (regex_of read.now) }
+    ensures form { IsTrue result ↔ Mirrors (regex_of tree.now) (regex_of read.now) }
 {
     mirrors(tree, read)
 }
 
-/// Returns true only if the pattern that lx read has the anchors and the texts of the other one.
+/// Returns true exactly if the pattern that lx read has the anchors and the form of the other one. Then both have the same texts.
 pub fn is_read_as(pattern: &Pattern, read: &Pattern) -> bool
-    ensures { result ≡ true → IsReadAs (reading_of pattern.now) (reading_of read.now) }
+    ensures same { result ≡ true → IsReadAs (reading_of pattern.now) (reading_of read.now) }
+    ensures form { IsTrue result ↔ IsMirrored (reading_of pattern.now) (reading_of read.now) }
 {
     if pattern.line_begin != read.line_begin {
         return false;
