@@ -90,13 +90,13 @@ x.l:3:1: note: write + for * before the context
 x.l:3:1: warning: an interval repeats the unit before it in flex, and all before it in its branch in POSIX
     3 | ab{3} ;
       | ^~~~~
-x.l:3:1: note: write a(b{2}) or (ab){2} for ab{2}, which both read alike
+x.l:3:1: note: here ab{2} means a(b{2}); write that, or (ab){2}: flex and POSIX read both alike
 """),
     ("two of one rule, in the order of the file", "ab ;\n<INITIAL>ab{1,1} ;\na ;\na ;\n", """\
 x.l:4:10: warning: an interval repeats the unit before it in flex, and all before it in its branch in POSIX
     4 | <INITIAL>ab{1,1} ;
       |          ^~~~~~~
-x.l:4:10: note: write a(b{2}) or (ab){2} for ab{2}, which both read alike
+x.l:4:10: note: here ab{2} means a(b{2}); write that, or (ab){2}: flex and POSIX read both alike
 x.l:4:10: warning: rule cannot be matched: an earlier rule takes all its texts
     4 | <INITIAL>ab{1,1} ;
       |          ^~~~~~~
@@ -211,6 +211,17 @@ class FlexWarnings(Case):
             self.write(with_head(text))
             ended = self.lx("flex", "-t", "x.l")
             self.expect(name, (ended.returncode, ended.stderr), (0, ""))
+
+    def test_reading_of_interval(self):
+        for command, reading, other in [(["flex"], "a(b{2})", "(ab){2}"), (["flex", "-X"], "(ab){2}", "a(b{2})"), (["lex"], "(ab){2}", "a(b{2})")]:
+            name = " ".join(command)
+            self.write(with_head("ab{2} ;\n"))
+            ended = self.lx(*command, "-t", "x.l")
+            self.expect(name, ended.stderr.splitlines()[3:], [f"x.l:3:1: note: here ab{{2}} means {reading}; write that, or {other}: flex and POSIX read both alike"])
+            for pattern in (reading, other):
+                self.write(with_head(f"{pattern} ;\n"))
+                alike = self.lx(*command, "-t", "x.l")
+                self.expect(f"{name}: {pattern}", (alike.returncode, alike.stderr), (0, ""))
 
     def test_default(self):
         for name, text, is_warned in NODEFAULT:

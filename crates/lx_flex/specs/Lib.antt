@@ -1,5 +1,6 @@
 pub mod Activity
 pub mod ConditionLists
+pub mod Faults
 pub mod Imported
 pub mod Lengths
 pub mod RulesSections

@@ -1,6 +1,7 @@
 //! Reads a whole file for lex or flex (POSIX.1-2017, XCU `lex`, "Input Files"; flex's manual, "Format of the Input File").
 
 ghost use Rattle.std.specs.Prelude.{◌≡◌, ⊤, IfOk, IfSome, OnOk, false};
+ghost use Rattle.std.specs.Option.{is_none};
 ghost use Rattle.lx_flex.specs.RulesSections.{HasRules};
 ghost use Rattle.lx_flex.specs.States.{IfNoFault, conditions_of, names_of};
 
@@ -116,14 +117,15 @@ fn read_sections<'a>(
 }
 
 /// Reads a file for lex or flex. `options` has those of the command line. Returns the file, unless a report is fatal, and the reports of all faults
-/// and warnings.
+/// and warnings. If there is no file, there is a report.
 pub fn read_file<'a>(
     alloc: Global,
     text: &'a [u8],
     options: FlexOptions,
 ) -> Result<(Option<FlexFile<'a>>, Reports), AllocError>
-    ensures { IfOk result (λ r. IfSome r.0 (λ file. HasRules (names_of file.declared) text.now
+    ensures rules { IfOk result (λ r. IfSome r.0 (λ file. HasRules (names_of file.declared) text.now
         (conditions_of file.rules.list.items))) }
+    ensures fatal { IfOk result (λ r. r.1.fatal ≡ is_none r.0) }
 {
     let mut reports = Reports {
         list: Vec::new(alloc),

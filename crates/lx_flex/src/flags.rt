@@ -44,12 +44,22 @@ pub enum FlagFault<'a> {
 }
 
 impl From<AllocError> for FlagFault<'_> {
+    ghost use Rattle.std.specs.Prelude.{◌≡◌};
+    ghost use Rattle.lx_flex.specs.declared.flags.FlagFault.{FlagFault};
+
+    ghost from_gives = { λ _ fault. fault ≡ FlagFault.Memory };
+
     fn from(_e: AllocError) -> Self {
         FlagFault::Memory
     }
 }
 
 impl<T: Drop> From<AllocFailed<T>> for FlagFault<'_> {
+    ghost use Rattle.std.specs.Prelude.{◌≡◌};
+    ghost use Rattle.lx_flex.specs.declared.flags.FlagFault.{FlagFault};
+
+    ghost from_gives = { λ _ fault. fault ≡ FlagFault.Memory };
+
     fn from(_e: AllocFailed<T>) -> Self {
         FlagFault::Memory
     }

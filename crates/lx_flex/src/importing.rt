@@ -1,6 +1,7 @@
 //! Imports a whole flex file.
 
-ghost use Rattle.std.specs.Prelude.{◌≡◌, map, IfOk, OnOk};
+ghost use Rattle.std.specs.Prelude.{◌≡◌, ◌<◌, map, length, IfErr, IfOk, OnOk};
+ghost use Rattle.lx_flex.specs.Faults.{HasReports};
 ghost use Rattle.lx_flex.specs.Imported.{IsImported};
 ghost use Rattle.lx_flex.specs.views.{definition_of, rule_of};
 ghost use Rattle.lx_rules.specs.views.Conditions.{condition_view};
@@ -148,16 +149,20 @@ fn check_report(draft: &ImportDraft, fault: CheckFault) -> Option<(FilePlace, Im
     }
 }
 
-fn fault_of(reports: Reports) -> ImportFault {
+fn fault_of(reports: Reports) -> ImportFault
+    requires { 0 < length reports.list.items }
+    ensures { HasReports result }
+{
     ImportFault::Refused(reports.list)
 }
 
 /// Returns the draft as an imported file, if lx reads it as it was read from the file.
 fn check_draft(alloc: Global, draft: ImportDraft, reports: Reports) -> Result<Imported, ImportFault>
-    ensures { IfOk result (λ i.
+    ensures ok { IfOk result (λ i.
         IsImported (map condition_view i.conditions.items)
         (map definition_of i.definitions.items) (map rule_of i.rules.items)
         i.specification.items) }
+    ensures err { IfErr result HasReports }
 {
     let outcome = check(
         alloc,
@@ -199,10 +204,11 @@ fn check_draft(alloc: Global, draft: ImportDraft, reports: Reports) -> Result<Im
 /// Err: reports, at least one of them fatal, if something can't be imported. With `lossy` it is left out, if there is a replacement, and only
 /// reported.
 pub fn import(alloc: Global, text: &[u8], options: ImportOptions) -> Result<Imported, ImportFault>
-    ensures { IfOk result (λ i.
+    ensures ok { IfOk result (λ i.
         IsImported (map condition_view i.conditions.items)
         (map definition_of i.definitions.items) (map rule_of i.rules.items)
         i.specification.items) }
+    ensures err { IfErr result HasReports }
 {
     let mut reports = Reports {
         list: Vec::new(alloc),

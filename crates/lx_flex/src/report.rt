@@ -1,6 +1,6 @@
 //! Reports on constructs that can't be imported, or only with a loss, and on what to do.
 
-ghost use Rattle.std.specs.Prelude.{◌≡◌, ◌||◌, IsErr, OnOk};
+ghost use Rattle.std.specs.Prelude.{◌≡◌, ◌<◌, ◌≤◌, ◌||◌, IsErr, OnOk, length, true};
 
 use crate::actions::Problem;
 use crate::cursor::FilePlace;
@@ -87,7 +87,10 @@ pub enum ImportCause {
     #[error("the token before its context can be empty: the scanner loops if the action neither changes the condition nor reads on")]
     EmptyToken,
     #[error("an interval repeats the unit before it in flex, and all before it in its branch in POSIX")]
-    IntervalBinding,
+    IntervalBinding {
+        /// True if the command reads the pattern as POSIX does.
+        posix: bool,
+    },
 }
 
 /// The rules that take the texts of a rule that is never matched.
@@ -116,8 +119,11 @@ impl ImportCause {
                 "flex takes the same text if r or s has no |, *, +, ? or interval, and the rule before has no action |",
             ),
             ImportCause::EmptyToken => Some("write + for * before the context"),
-            ImportCause::IntervalBinding => Some(
-                "write a(b{2}) or (ab){2} for ab{2}, which both read alike",
+            ImportCause::IntervalBinding { posix: true } => Some(
+                "here ab{2} means (ab){2}; write that, or a(b{2}): flex and POSIX read both alike",
+            ),
+            ImportCause::IntervalBinding { posix: false } => Some(
+                "here ab{2} means a(b{2}); write that, or (ab){2}: flex and POSIX read both alike",
             ),
             _ => None,
         }
@@ -140,7 +146,7 @@ impl ImportCause {
                 | ImportCause::NeverMatched(_)
                 | ImportCause::DangerousContext
                 | ImportCause::EmptyToken
-                | ImportCause::IntervalBinding
+                | ImportCause::IntervalBinding { posix: _ }
         )
     }
 }
@@ -173,12 +179,20 @@ pub(crate) enum ReadFault {
 }
 
 impl From<AllocError> for ReadFault {
+    ghost use Rattle.lx_flex.specs.declared.report.ReadFault.{ReadFault};
+
+    ghost from_gives = { λ _ fault. fault ≡ ReadFault.Memory };
+
     fn from(_e: AllocError) -> ReadFault {
         ReadFault::Memory
     }
 }
 
 impl<T: Drop> From<AllocFailed<T>> for ReadFault {
+    ghost use Rattle.lx_flex.specs.declared.report.ReadFault.{ReadFault};
+
+    ghost from_gives = { λ _ fault. fault ≡ ReadFault.Memory };
+
     fn from(_e: AllocFailed<T>) -> ReadFault {
         ReadFault::Memory
     }
@@ -194,12 +208,20 @@ pub enum ImportFault {
 }
 
 impl From<AllocError> for ImportFault {
+    ghost use Rattle.lx_flex.specs.declared.report.ImportFault.{ImportFault};
+
+    ghost from_gives = { λ _ fault. fault ≡ ImportFault.Memory };
+
     fn from(_e: AllocError) -> ImportFault {
         ImportFault::Memory
     }
 }
 
 impl<T: Drop> From<AllocFailed<T>> for ImportFault {
+    ghost use Rattle.lx_flex.specs.declared.report.ImportFault.{ImportFault};
+
+    ghost from_gives = { λ _ fault. fault ≡ ImportFault.Memory };
+
     fn from(_e: AllocFailed<T>) -> ImportFault {
         ImportFault::Memory
     }
@@ -207,6 +229,38 @@ impl<T: Drop> From<AllocFailed<T>> for ImportFault {
 
 /// Greatest number of reports that are kept.
 const MAX_REPORTS: usize = 1000;
+
+/// Returns the number of reports on this line and on earlier ones.
+fn count_up_to(reports: &[ImportReport], line: u32) -> usize {
+    let mut count: usize = 0;
+    for report in reports {
+        if report.place.line <= line {
+            count = count.saturating_add(1);
+        }
+    }
+    count
+}
+
+/// Inserts a report after those on its line and on earlier ones. Above the limit, the last report says that there are more.
+fn insert_report(reports: &mut Vec<ImportReport>, report: ImportReport) -> Result<(), AllocError>
+    ensures some { OnOk result (0 < length reports.new.items) }
+    ensures kept { length reports.old.items ≤ length reports.new.items }
+{
+    let count = reports.len();
+    if count < MAX_REPORTS {
+        let at = count_up_to(reports.as_slice(), report.place.line).min(count);
+        reports.insert(at, report)?;
+        return Ok(());
+    }
+    if count == MAX_REPORTS {
+        reports.push(ImportReport {
+            place: FilePlace::WHOLE,
+            cause: ImportCause::Further,
+            fatal: report.fatal,
+        })?;
+    }
+    Ok(())
+}
 
 /// The reports that were made, in the order of the text.
 #[derive(Debug, Drop)]
@@ -218,6 +272,7 @@ pub struct Reports {
     pub(crate) lossy: bool,
     /// True if warnings are reported.
     pub warns: bool,
+    pub ghost some: { fatal ≡ true → 0 < length list.items },
 }
 
 impl Reports {
@@ -230,17 +285,6 @@ impl Reports {
         false
     }
 
-    /// Returns the number of reports on this line and on earlier ones.
-    fn count_up_to(&self, line: u32) -> usize {
-        let mut count: usize = 0;
-        for report in self.list.as_slice() {
-            if report.place.line <= line {
-                count = count.saturating_add(1);
-            }
-        }
-        count
-    }
-
     /// Adds a report, after those on its line and on earlier ones. Above the limit, the last report says that there are more.
     pub fn add(
         &mut self,
@@ -248,24 +292,16 @@ impl Reports {
         cause: ImportCause,
         fatal: bool,
     ) -> Result<(), AllocError>
-        ensures { OnOk result (self.new.fatal ≡ (self.old.fatal || fatal)) }
+        ensures fatal { OnOk result (self.new.fatal ≡ (self.old.fatal || fatal)) }
+        ensures some { OnOk result (0 < length self.new.list.items) }
     {
+        let report = ImportReport {
+            place,
+            cause,
+            fatal,
+        };
+        insert_report(&mut self.list, report)?;
         self.fatal = self.fatal || fatal;
-        if self.list.len() < MAX_REPORTS {
-            let at = self.count_up_to(place.line).min(self.list.len());
-            let report = ImportReport {
-                place,
-                cause,
-                fatal,
-            };
-            self.list.insert(at, report)?;
-        } else if self.list.len() == MAX_REPORTS {
-            self.list.push(ImportReport {
-                place: FilePlace::WHOLE,
-                cause: ImportCause::Further,
-                fatal,
-            })?;
-        }
         Ok(())
     }
 

@@ -53,10 +53,11 @@ pub(crate) fn warn_of_pattern(
     if has_empty_token(reading) {
         reports.warn(place, ImportCause::EmptyToken)?;
     }
-    if !reports.has(ImportCause::IntervalBinding)
-        && is_read_in_two_ways(alloc, text, reading, names, options)?
-    {
-        reports.warn(place, ImportCause::IntervalBinding)?;
+    let binding = ImportCause::IntervalBinding {
+        posix: options.posix,
+    };
+    if !reports.has(binding) && is_read_in_two_ways(alloc, text, reading, names, options)? {
+        reports.warn(place, binding)?;
     }
     Ok(())
 }
