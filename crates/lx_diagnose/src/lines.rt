@@ -1,6 +1,6 @@
 //! Lines of a text, and places in them.
 
-ghost use Rattle.std.specs.Prelude.{◌≡◌, ◌+◌, ◌-◌, ◌<◌, ◌≤◌, length};
+ghost use Rattle.std.specs.Prelude.{◌≡◌, ◌+◌, ◌-◌, ◌<◌, ◌≤◌, length, min, take};
 ghost use Rattle.std.specs.List.{prefix_len};
 ghost use Rattle.lx_diagnose.specs.Places as specs;
 
@@ -32,6 +32,7 @@ fn from_line(text: &[u8], line: u32) -> &[u8]
 }
 
 fn unknown_place(start: usize, line: u32) -> TextPlace
+    ensures start { result.start ≡ start }
     ensures line { result.line ≡ line }
     ensures column { result.column ≡ 0 }
     ensures width { result.width ≡ 0 }
@@ -51,6 +52,7 @@ fn place_after(start: usize, line: u32, before: usize, width: usize, len: usize)
     ensures start { result.start ≡ start }
     ensures line { result.line ≡ line }
     ensures column { result.column ≡ before + 1 }
+    ensures width { result.width ≡ min width (len - before) }
     ensures within { result.column + result.width ≤ len + 1 }
 {
     let left = len - before;
@@ -65,7 +67,12 @@ fn place_after(start: usize, line: u32, before: usize, width: usize, len: usize)
 /// Returns the place of a part of the text within this line. Cuts the part off at the line's end. The column is 0 if the part doesn't begin in the
 /// line.
 pub(crate) fn place_in(text: &[u8], line: u32, span: Span) -> TextPlace
+    ensures start { result.start ≡ span.start }
     ensures line { result.line ≡ line }
+    ensures known { 0 < line → line ≤ length text.now → specs.line_start line text.now ≤ span.start
+        → span.start ≤ specs.line_start line text.now + specs.line_len line text.now → 0 < result.column }
+    ensures width { 0 < result.column
+        → result.width ≡ min span.len (specs.line_len line text.now + 1 - result.column) }
     ensures place { specs.IsInText text.now result }
 {
     if line == 0 || line as usize > text.len() {
@@ -81,20 +88,32 @@ pub(crate) fn place_in(text: &[u8], line: u32, span: Span) -> TextPlace
     }
 }
 
-/// Returns the number of the line that has this byte of the text.
-pub(crate) fn line_number(text: &[u8], at: usize) -> u32 {
-    let mut number: u32 = 1;
-    for i in 0..text.len() {
-        if i < at && text[i] == b'\n' && number < u32::MAX {
-            number += 1;
-        }
-    }
-    number
+fn newline_count(text: &[u8]) -> usize
+    ensures { result ≡ specs.newlines text.now }
+{
+    text.iter().filter(|c| **c == b'\n').count()
 }
 
-/// Returns the place of a part of the text.
+fn front(text: &[u8], len: usize) -> &[u8]
+    ensures { result.now ≡ take len text.now }
+{
+    if len < text.len() { &text[..len] } else { text }
+}
+
+/// Returns the number of the line that has this byte of the text. Lines from `u32::MAX` on have this number.
+pub(crate) fn line_number(text: &[u8], at: usize) -> u32
+    ensures { result ≡ min (specs.newlines (take at text.now) + 1) 4294967295 }
+{
+    let newlines = newline_count(front(text, at));
+    u32::try_from(newlines)
+        .unwrap_or(u32::MAX)
+        .saturating_add(1)
+}
+
+/// Returns the place of a part of the text. Cuts the part off at the end of its first byte's line.
 pub fn place_of(text: &[u8], span: Span) -> TextPlace
-    ensures { specs.IsInText text.now result }
+    ensures place { specs.IsInText text.now result }
+    ensures exact { specs.IsPlaceOf text.now span.start span.len result }
 {
     place_in(text, line_number(text, span.start), span)
 }
