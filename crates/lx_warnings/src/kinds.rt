@@ -1,6 +1,6 @@
 //! The kinds of warnings, and sets of them.
 
-ghost use Rattle.std.specs.Prelude.{◌≡◌, ◌<◌, IfSome, nat_eq, if◌then◌else◌, true, false};
+ghost use Rattle.std.specs.Prelude.{◌≡◌, ◌<◌, ◌≢◌, IfSome, None, nat_eq, if◌then◌else◌, true, false};
 ghost use Rattle.lx_warnings.specs.Names.{name_text};
 ghost use Rattle.lx_warnings.specs.Kinds.{has_kind, is_usual, number};
 ghost use Rattle.lx_warnings.specs.declared.kinds.WarningKind.{WarningKind};
@@ -79,9 +79,10 @@ pub fn name_of(kind: WarningKind) -> &'static str
     }
 }
 
-/// Returns the kind with a name, or `None` if there is none.
+/// Returns the kind with a name, or `None` exactly if there is none.
 pub fn kind_named(name: &[u8]) -> Option<WarningKind>
-    ensures { IfSome result (λ kind. name_text kind ≡ name.now) }
+    ensures some { IfSome result (λ kind. name_text kind ≡ name.now) }
+    ensures none { result ≡ None → (kind : WarningKind) → name_text kind ≢ name.now }
 {
     for kind in &ALL {
         if name_of(*kind).as_bytes() == name {
