@@ -1,5 +1,5 @@
 -- The lines of a file that arrives in blocks.
-use Rattle.std.proofs.Common.{ℕ, ◌≡◌, ◌+◌, ◌-◌, ◌<◌, ◌≤◌, true, false, Bool, List, [], ◌++◌, Result, Ok, Err, take, drop, length, length-append, length-take, refl, sym, ◌∙◌, ap, ap₂, subst, append_assoc, append-nil, arith, if◌then◌else◌}
+use Rattle.std.proofs.Common.{ℕ, ◌≡◌, inl, ◌+◌, ◌-◌, ◌<◌, ◌≤◌, true, false, Bool, List, [], ◌++◌, Result, Ok, Err, take, drop, length, length-append, length-take, refl, sym, ◌∙◌, ap, ap₂, subst, append_assoc, append-nil, arith, if◌then◌else◌}
 use Rattle.std.specs.Prelude.{All, IsTrue, OnOk, get_or}
 use Rattle.std.proofs.lemmas.Grind.{flat_map-append}
 use Rattle.std.proofs.lemmas.List.Elements.{All-drop, All-take, All-weaker}
@@ -8,7 +8,7 @@ use Rattle.lx_tables.specs.Model.{IsTable, Table}
 use Rattle.lx_scan.specs.declared.item.Item.{Item}
 use Rattle.lx_scan.specs.ItemParts.{IsItemOf, NamesKindAmong, text_of}
 use Rattle.lx_scan.specs.Items as scan
-use Rattle.lx_scan.specs.Streams.{Feeds, Gives, HasScanned, IsFedOf, IsOver, Stream, first_stream, left_in}
+use Rattle.lx_scan.specs.Streams.{Feeds, Gives, HasScanned, IsDrained, IsFedOf, IsOver, Stream, first_stream, left_in}
 use Rattle.lx_scan.proofs.Streaming.{all_scanned, begins_scanned, ends_scanned, feeds_scanned, front_more, gives_none, gives_then}
 use Rattle.lx_piece.specs.Plans.{PlainInput, Planned, bytes_of, input_of, items_of}
 use Rattle.lx_line.specs.Styles.{NeedsText, Style, lines_by}
@@ -29,6 +29,9 @@ scanned_more a b front before given g h = record {
   where
     ended : {rest : List ℕ} → (IsTrue b.has_ended → rest ≡ []) → IsTrue a.has_ended → rest ≡ []
     ended end e = end (g.end ∙ e)
+
+pub drained_first : (table : Table) (s : Stream) → s ≡ first_stream table → IsDrained s
+drained_first table s is = record { none_due = ap (λ (t : Stream). t.due) is; undecided = inl (ap (λ (t : Stream). t.held) is) }
 
 pub scanning_begins : (table : Table) (s : Stream) → s ≡ first_stream table → IsScanning table s
 scanning_begins table s is = record { table_is = ap (λ (t : Stream). t.table) is; front = []; given = []; scanned = begins_scanned table s is }
@@ -82,6 +85,11 @@ few_kept s text rest fed =
 pub ok_anyway : {T E P : Type 0} (r : Result T E) → P → OnOk r P
 ok_anyway (Ok value) p = p
 ok_anyway (Err error) p = tt
+
+-- what follows from its success
+pub ok_then : {T E P Q : Type 0} (r : Result T E) → OnOk r P → (P → Q) → OnOk r Q
+ok_then (Ok value) p f = f p
+ok_then (Err error) p f = tt
 
 -- fewer are left
 pub fewer_items : (a b : Stream) (text : List ℕ) (given : List Item) (full : Bool) (count most : ℕ) → Gives a b given → IsFedOf a text [] → 0 < most → count ≡ length given → (full ≡ true → count ≡ most) →

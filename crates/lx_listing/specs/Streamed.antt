@@ -2,7 +2,7 @@
 use Rattle.std.specs.Prelude.{ℕ, ◌≡◌, Bool, false, List, [], ◌++◌}
 use Rattle.lx_tables.specs.Model.{Table}
 use Rattle.lx_scan.specs.declared.item.Item.{Item}
-use Rattle.lx_scan.specs.Streams.{Gives, HasScanned, IsFedOf, Stream}
+use Rattle.lx_scan.specs.Streams.{Gives, HasScanned, IsDrained, IsFedOf, Stream}
 use Rattle.lx_piece.specs.Plans.{Planned, bytes_of}
 use Rattle.lx_line.specs.Styles.{Style, lines_by}
 use Rattle.lx_listing.specs.Gathered.{Gathered, Gathers}
@@ -35,9 +35,15 @@ pub record HasLines {S : Type 0} (wrote : S → List ℕ → S → Type 0) (styl
   pub goes_on : s.has_ended ≡ false
   pub lines : (whole : Planned) (rest : List ℕ) → whole.table ≡ s.table → bytes_of whole file ≡ front ++ rest → Gathers wrote start (lines_by style whole file given) now
 
--- These bytes of the file were taken, in blocks, and the lines of all items that the scanner gave were gathered. Which it gave isn't said.
+-- Nothing waits in vain: all items that are decided were given, and no line of theirs is held.
+pub record IsPrompt {L S : Type 0} (s : Streamed L S) : Type 0 where
+  pub drained : IsDrained s.stream
+  pub none_held : s.sink.held ≡ []
+
+-- These bytes of the file were taken, in blocks, and the lines of all items that the scanner gave were gathered.
 pub record TakesBytes {L S : Type 0} (style : L → Style) (wrote : S → List ℕ → S → Type 0) (old : Streamed L S) (bytes : List ℕ) (new : Streamed L S) : Type 0 where
   pub style_is : new.style ≡ old.style
   pub plan_is : new.plan ≡ old.plan
   pub file_is : new.file ≡ old.file
   pub lines : (start : Gathered S) (front : List ℕ) → HasLines wrote (style old.style) old.file old.stream front start old.sink → HasLines wrote (style old.style) old.file new.stream (front ++ bytes) start new.sink
+  pub prompt : IsPrompt old → IsPrompt new

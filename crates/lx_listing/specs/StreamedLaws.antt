@@ -10,6 +10,7 @@ takes_nothing style wrote s = record {
   plan_is = refl;
   file_is = refl;
   lines = λ start front h. subst (λ (bytes : List ℕ). HasLines wrote (style s.style) s.file s.stream bytes start s.sink) (sym (append-nil front)) h;
+  prompt = λ h. h;
 }
 
 pub takes_on : {L S : Type 0} (style : L → Style) (wrote : S → List ℕ → S → Type 0) (s t u : Streamed L S) (xs ys : List ℕ) → TakesBytes style wrote s xs t → TakesBytes style wrote t ys u → TakesBytes style wrote s (xs ++ ys) u
@@ -25,4 +26,5 @@ takes_on {L} {S} style wrote s t u xs ys f h = record {
       let back = subst (λ (file : ℕ). HasLines wrote (style s.style) file u.stream ((front ++ xs) ++ ys) start u.sink) f.file_is
       (subst (λ (by : L). HasLines wrote (style by) t.file u.stream ((front ++ xs) ++ ys) start u.sink) f.style_is last) in
       subst (λ (bytes : List ℕ). HasLines wrote (style s.style) s.file u.stream bytes start u.sink) (append_assoc front xs ys) back;
+  prompt = λ first. h.prompt (f.prompt first);
 }

@@ -1,13 +1,13 @@
 //! Writes the lines of files that arrive in blocks, as soon as their items are decided.
 
-ghost use Rattle.std.specs.Prelude.{◌≡◌, [], ◌++◌, ℕ, All, IfOk, List, OnOk, false, is_err};
+ghost use Rattle.std.specs.Prelude.{◌≡◌, [], ◌++◌, ℕ, All, IfErr, IfOk, List, OnOk, false, is_err};
 ghost use Rattle.lx_scan.specs.ItemParts.{NamesKindAmong};
-ghost use Rattle.lx_scan.specs.Streams.{IsFedOf, IsKept, IsOver, first_stream};
+ghost use Rattle.lx_scan.specs.Streams.{IsDrained, IsFedOf, IsKept, IsOver, first_stream};
 ghost use Rattle.lx_piece.specs.Plans.{Planned, bytes_of, input_of, kinds_of};
 ghost use Rattle.lx_line.specs.Prefixes.{ArePrefixesOf};
 ghost use Rattle.lx_listing.specs.Gathered.{Gathered, Gathers, gathered};
 ghost use Rattle.lx_listing.specs.Lines.{file_lines_by, lines_by};
-ghost use Rattle.lx_listing.specs.Streamed.{HasLines, IsScanning, ListsGiven};
+ghost use Rattle.lx_listing.specs.Streamed.{HasLines, IsPrompt, IsScanning, ListsGiven};
 
 use crate::gathering::Gathering;
 use crate::shown_lines::write_cut;
@@ -16,7 +16,7 @@ use lx_line::{Draft, LineBuffer, LineStyle};
 use lx_piece::{Plan, ReaderFault, plans_are_well_formed};
 use lx_scan::lines::items_have_their_lines;
 use lx_scan::{BlockScanner, FlatItem, ItemList};
-use std::alloc::{AllocError, Global};
+use std::alloc::{AllocFailed, Global};
 use std::marker::Model;
 
 // Number of items that are found at once.
@@ -114,6 +114,7 @@ fn write_decided<L: LineStyle, S: LineSink>(
     ensures lists { OnOk result (ListsGiven S.wrote (L.style style.now) file scanner.old sink.old
         scanner.new sink.new) }
     ensures over { OnOk result (IsOver scanner.new) }
+    ensures drained { OnOk result (IsDrained scanner.new) }
 {
     // laws: each item has a kind that the tables name
     items_have_their_lines();
@@ -140,13 +141,13 @@ fn write_decided<L: LineStyle, S: LineSink>(
 }
 
 impl<'p, L: LineStyle, S: LineSink> StreamLines<'p, L, S> {
-    /// Makes a writer of lines before the first byte of file 0. Only the tables of the plan count.
+    /// Makes a writer of lines before the first byte of file 0. Only the tables of the plan count. Err: an allocation failed; the sink is returned.
     pub fn new(
         alloc: Global,
         plan: &'p Plan,
         style: L,
         sink: S,
-    ) -> Result<StreamLines<'p, L, S>, AllocError>
+    ) -> Result<StreamLines<'p, L, S>, AllocFailed<S>>
     where
         L: Drop,
         S: Drop,
@@ -154,8 +155,11 @@ impl<'p, L: LineStyle, S: LineSink> StreamLines<'p, L, S> {
         ensures plan { IfOk result (λ lines. lines.plan ≡ plan.now) }
         ensures stream { IfOk result (λ lines. lines.stream ≡ first_stream plan.now.table) }
         ensures sink { IfOk result (λ lines. lines.sink ≡ gathered [] false sink) }
+        ensures back { IfErr result (λ refused. refused.value ≡ sink) }
     {
-        let held = LineBuffer::new(alloc)?;
+        let Ok(held) = LineBuffer::new(alloc) else {
+            return Err(AllocFailed { value: sink });
+        };
         let draft = Draft::new(&style, plan, 0);
         Ok(StreamLines {
             alloc,
@@ -191,6 +195,7 @@ impl<'p, L: LineStyle, S: LineSink> StreamLines<'p, L, S> {
             → input_of whole self.old.file ≡ record { bytes = front; cut = is_cut }
             → Gathers S.wrote start (file_lines_by (L.style self.old.style) whole self.old.file)
             self.new.sink) }
+        ensures prompt { OnOk result (IsPrompt self.new) }
     {
         self.scanner.end();
         let answer = write_decided(

@@ -19,6 +19,7 @@ further-init g c = record {
   end = refl;
   lists = lists_none g.S.LineSink.wrote g.met.S.LineSink.wrote_nothing g.met.S.LineSink.wrote_on (g.L.LineStyle.style c.args.style.now) c.args.file c.args.scanner.now c.args.sink.now;
   over = λ no. absurd (let n : true ≡ false = no in cc);
+  drained = λ no. absurd (let n : true ≡ false = no in cc);
 }
 
 pub write_kept-requires-clause-named : goal.write_kept-requires-clause-named
@@ -63,4 +64,5 @@ further-preserved g c =
       lists = lists_more g.S.LineSink.wrote g.met.S.LineSink.wrote_nothing g.met.S.LineSink.wrote_on style c.args.file c.args.plan.now.table c.args.scanner.now old new c.args.sink.now c.further.sink c.write_kept.new.sink c.next_items.new.items c.further.invariant.lists gives c.requires.scanning.table_is
           (λ whole rest e fed. subst (λ (xs : List Item). Gathers g.S.LineSink.wrote c.further.sink (lines_by style whole c.args.file xs) c.write_kept.new.sink) c.as_slice.ensures (c.in_ok-write_kept.ensures.lines whole rest e fed));
       over = λ part. c.in-Ok.ensures.over (not_full c.len-is_full.result (length c.next_items.new.items) 1024 c.len-is_full.ensures c.in-Ok.ensures.most part);
+      drained = λ part. c.in-Ok.ensures.drained (not_full c.len-is_full.result (length c.next_items.new.items) 1024 c.len-is_full.ensures c.in-Ok.ensures.most part);
     }

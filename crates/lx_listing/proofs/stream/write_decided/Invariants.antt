@@ -1,5 +1,5 @@
 use Rattle.std.proofs.Common.{◌≡◌, ◌+◌, false, if◌then◌else◌, length}
-use Rattle.lx_scan.specs.Streams.{IsOver, left_in}
+use Rattle.lx_scan.specs.Streams.{IsDrained, IsOver, left_in}
 use Rattle.lx_scan.proofs.Streaming.{text_ahead}
 use Rattle.lx_line.specs.Prefixes.{ArePrefixesOf}
 use Rattle.lx_listing.specs.Streamed.{IsScanning, ListsGiven}
@@ -12,6 +12,7 @@ invariant-further g l = record {
   end : l.scanner.has_ended ≡ l.fn.scanner.has_ended;
   lists : ListsGiven g.S.LineSink.wrote (g.L.LineStyle.style l.style) l.file l.fn.scanner l.fn.sink l.scanner l.sink;
   over : l.is_full ≡ false → IsOver l.scanner;
+  drained : l.is_full ≡ false → IsDrained l.scanner;
 }
 
 abbrev pub decreases-further : goal.decreases-further

@@ -4,7 +4,7 @@ use Rattle.lx_piece.specs.Plans.{Planned, input_of}
 use Rattle.lx_listing.specs.Gathered.{Gathered, Gathers}
 use Rattle.lx_listing.specs.Lines.{file_lines_by}
 use Rattle.lx_listing.specs.Streamed.{HasLines, Streamed}
-use Rattle.lx_listing.proofs.Streaming.{ends_file, ok_anyway, scanning_begins}
+use Rattle.lx_listing.proofs.Streaming.{drained_first, ends_file, ok_anyway, ok_then, scanning_begins}
 use Rattle.lx_listing.proofs.stream.StreamLines.end_file.Goals as goal
 
 pub invariant_of-self : goal.invariant_of-self
@@ -34,3 +34,8 @@ returns-clause-lines g c =
     (λ start front whole h e input.
     ends_file wrote g.met.S.LineSink.wrote_nothing g.met.S.LineSink.wrote_on style s.file s.scanner c.end.new.self c.write_decided-answer.new.scanner front c.args.is_cut start s.sink c.write_decided-answer.new.sink c.write_cut.new.sink new whole
     c.end.ensures c.in_ok-answer.ensures.lists c.in_ok-answer.ensures.over c.in_ok-write_cut.ensures.ok c.pass_on.ensures.gathers h (e ∙ sym c.self.invariant.0.table_is) input))
+
+pub returns-clause-prompt : goal.returns-clause-prompt
+returns-clause-prompt g c =
+    let fresh = c.new.ensures ∙ ap first_stream c.tables.ensures in
+    ok_then c.pass_on.result c.pass_on.ensures.empty (λ none_held. record { drained = drained_first c.self.inside.plan.now.table c.new.result fresh; none_held = none_held })
