@@ -1,9 +1,15 @@
 //! Real files as the program's sources.
 
+ghost use Rattle.std.specs.Prelude.{None, OnOk};
+ghost use Rattle.lx_tool.specs.Sources.{TakesOn};
+
 use crate::names::text_of;
-use lx_piece::Input;
-use lx_tool::{STANDARD_INPUT, SourceFault, Sources, name_bytes, read_names, read_to_end};
-use std::alloc::Global;
+use lx_piece::{Input, ReaderFault};
+use lx_tool::{
+    BlockTaker, BlocksFault, STANDARD_INPUT, SourceFault, Sources, name_bytes, read_in_blocks,
+    read_names, read_to_end,
+};
+use std::alloc::{AllocError, Global};
 use std::env::FillError;
 use std::fs::File;
 use std::io;
@@ -83,27 +89,41 @@ impl<'a, R: AllocGlobal + Env + Files + StandardInput> FileSources<'a, R> {
         Ok(input)
     }
 
+    // Gives a file in blocks, and keeps the reason if its reading fails.
+    fn give_file<F: Read + Drop, B: BlockTaker>(
+        &mut self,
+        alloc: Global,
+        file: F,
+        taker: &mut B,
+    ) -> Result<bool, ReaderFault>
+        ensures { OnOk result (TakesOn B.takes None None taker.old taker.new) }
+    {
+        let mut noting = Noting { file, reason: None };
+        let answer = read_in_blocks(alloc, &mut noting, taker);
+        self.reason = noting.reason;
+        let is_cut = answer?;
+        if is_cut && self.cut().is_err() {
+            return Err(ReaderFault::Memory);
+        }
+        Ok(is_cut)
+    }
+
     // Keeps the reason why a file is cut short.
-    fn cut(&mut self) -> Result<(), SourceFault> {
-        self.cut_reasons
-            .push(self.reason)
-            .map_err(|_| SourceFault::Memory)
+    fn cut(&mut self) -> Result<(), AllocError> {
+        self.cut_reasons.push(self.reason)?;
+        Ok(())
     }
 
     // Keeps the reason why a file can't be opened.
-    fn refuse(&mut self, error: &Error) -> Result<Input, SourceFault> {
+    fn refuse(&mut self, error: &Error) -> SourceFault {
         self.reason = Reason::of(error);
-        Err(fault_of(error))
+        fault_of(error)
     }
 
-    // Returns a file that is cut before its first byte, so that the other files of a directory are listed.
-    fn leave_out(&mut self, alloc: Global) -> Result<Input, SourceFault> {
+    // Counts a file as cut before its first byte, so that the other files of a directory are listed.
+    fn leave_out(&mut self) -> Result<(), AllocError> {
         self.reason = Some(Reason::NotUtf8);
-        self.cut()?;
-        Ok(Input {
-            bytes: Vec::new(alloc),
-            cut: true,
-        })
+        self.cut()
     }
 
     // Reads the wanted part of the file with this name.
@@ -119,11 +139,15 @@ impl<'a, R: AllocGlobal + Env + Files + StandardInput> FileSources<'a, R> {
         }
         let bytes = name_bytes(alloc, name)?;
         let Ok(path) = str::from_utf8(&bytes) else {
-            return self.leave_out(alloc);
+            self.leave_out()?;
+            return Ok(Input {
+                bytes: Vec::new(alloc),
+                cut: true,
+            });
         };
         match File::open(self.rt, path) {
             Ok(file) => self.read_file(alloc, file, wanted),
-            Err(error) => self.refuse(&error),
+            Err(error) => Err(self.refuse(&error)),
         }
     }
 }
@@ -150,6 +174,31 @@ impl<R: AllocGlobal + Env + Files + StandardInput> Sources for FileSources<'_, R
             list.bytes = text_of(alloc, &list.bytes)?.into_bytes();
         }
         Ok(list)
+    }
+
+    fn read_blocks<B: BlockTaker>(
+        &mut self,
+        alloc: Global,
+        name: &str,
+        taker: &mut B,
+    ) -> Result<bool, BlocksFault> {
+        if name == STANDARD_INPUT {
+            let input = self.rt.reader();
+            return Ok(self.give_file(alloc, input, taker)?);
+        }
+        let bytes = name_bytes(alloc, name)?;
+        let Ok(path) = str::from_utf8(&bytes) else {
+            self.leave_out()?;
+            taker.take_block(&[])?;
+            return Ok(true);
+        };
+        match File::open(self.rt, path) {
+            Ok(file) => Ok(self.give_file(alloc, file, taker)?),
+            Err(error) => match self.refuse(&error) {
+                SourceFault::NotRead => Err(BlocksFault::NotRead),
+                SourceFault::Memory => Err(BlocksFault::NotTaken(ReaderFault::Memory)),
+            },
+        }
     }
 
     fn reason(&self) -> Option<Error> {

@@ -9,4 +9,5 @@ pub mod Planned
 pub mod ReadOn
 pub mod Reporting
 pub mod SourceLemmas
+pub mod StreamedFiles
 pub mod Tabled

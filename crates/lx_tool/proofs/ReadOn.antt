@@ -8,7 +8,7 @@ pub reads_nothing : (a : Option (List ℕ)) → Consumes a a []
 reads_nothing None = tt
 reads_nothing (Some xs) = refl
 
-reads_more : (a b c : Option (List ℕ)) (xs ys : List ℕ) → Consumes a b xs → Consumes b c ys → Consumes a c (xs ++ ys)
+pub reads_more : (a b c : Option (List ℕ)) (xs ys : List ℕ) → Consumes a b xs → Consumes b c ys → Consumes a c (xs ++ ys)
 reads_more None b c xs ys h k = tt
 reads_more (Some all) None c xs ys h k = absurd h
 reads_more (Some all) (Some rest) None xs ys h k = absurd k

@@ -1,5 +1,5 @@
 -- Files by name, and the inputs that sources give for names.
-use Rattle.std.specs.Prelude.{◌≡◌, ◌≢◌, ℕ, Bool, false, ◌||◌, if◌then◌else◌, List, [], ◌∷◌, ◌++◌, All, Option, map}
+use Rattle.std.specs.Prelude.{◌≡◌, ◌≢◌, ◌<◌, ℕ, Bool, false, ◌||◌, if◌then◌else◌, List, [], ◌∷◌, ◌++◌, All, Option, map}
 use Rattle.std.specs.Borrow.{Bor}
 use Rattle.std.specs.Io.KnownBytes.{Consumes}
 use Rattle.std.specs.Str.{bytes_eq}
@@ -31,6 +31,13 @@ abbrev pub cut_names : List (List ℕ) → List PlainInput → List (List ℕ)
 cut_names [] inputs = []
 cut_names (name ∷ names) [] = []
 cut_names (name ∷ names) (input ∷ inputs) = if input.cut then name ∷ cut_names names inputs else cut_names names inputs
+
+-- A file was given for the name, and its bytes were taken in blocks, one after the other.
+pub record GivesBlocks {S B : Type 0} (gives : S → List ℕ → PlainInput → S → Type 0) (takes : B → List ℕ → B → Type 0) (before : S) (name : List ℕ) (cut : Bool) (old new : B) (after : S) : Type 0 where
+  pub bytes : List ℕ
+  pub given : gives before name (record { bytes = bytes; cut = cut }) after
+  pub taken : takes old bytes new
+  pub are_bytes : All (λ b. b < 256) bytes
 
 -- ---- sources that are a list
 
@@ -65,3 +72,10 @@ pub record ReadsOn (before after : Option (List ℕ)) (old new : List ℕ) : Typ
   pub more : List ℕ
   pub behind : new ≡ old ++ more
   pub read : Consumes before after more
+
+-- Bytes were read, and taken in blocks.
+pub record TakesOn {B : Type 0} (takes : B → List ℕ → B → Type 0) (before after : Option (List ℕ)) (old new : B) : Type 0 where
+  pub bytes : List ℕ
+  pub read : Consumes before after bytes
+  pub taken : takes old bytes new
+  pub are_bytes : All (λ b. b < 256) bytes

@@ -9,6 +9,8 @@ use Rattle.lx_spec.specs.declared.fault.Code.TheVariants as code
 use Rattle.lx_spec.specs.declared.fault.SpecFault.{SpecFault}
 use Rattle.lx_tables.specs.declared.fault.TableFault.{TableFault}
 use Rattle.lx_tables.specs.declared.fault.TableFault.TheVariants as table
+use Rattle.lx_piece.specs.declared.reader.ReaderFault.{ReaderFault}
+use Rattle.lx_piece.specs.declared.reader.ReaderFault.TheVariants as reader
 use Rattle.lx_post.specs.declared.run_fault.RunFault.{RunFault}
 use Rattle.lx_post.specs.declared.run_fault.RunFault.TheVariants as run
 use Rattle.lx_forms.specs.declared.choosing.ChoiceFault.{ChoiceFault}
@@ -72,6 +74,11 @@ pub record HasStatusOfCut {X : Type 0} (status : ℕ) (cut : List X) : Type 0 wh
 abbrev pub failure_of_run : RunFault → CommandFault
 failure_of_run run.Memory = Memory
 failure_of_run run.Reader = Output
+
+-- the failure of a listing whose lines are not taken
+abbrev pub failure_of_reader : ReaderFault → CommandFault
+failure_of_reader reader.Memory = Memory
+failure_of_reader reader.Device = Output
 
 -- the failure of a listing whose `--only` is rejected
 abbrev pub failure_of_choice : ChoiceFault → CommandFault

@@ -8,6 +8,7 @@ use clap::Error as WordsError;
 use lx_auto::BuildFault;
 use lx_c::OptionFault;
 use lx_forms::ChoiceFault;
+use lx_piece::ReaderFault;
 use lx_post::RunFault;
 use lx_spec::{Code, SpecFault};
 use lx_tables::TableFault;
@@ -239,6 +240,19 @@ impl<T: Drop> From<AllocFailed<T>> for CommandFault<'_> {
 
     fn from(_error: AllocFailed<T>) -> Self {
         CommandFault::Memory
+    }
+}
+
+impl From<ReaderFault> for CommandFault<'_> {
+    ghost use Rattle.lx_tool.specs.Statuses.{failure_of_reader};
+
+    ghost from_gives = { λ fault failure. failure ≡ failure_of_reader fault };
+
+    fn from(fault: ReaderFault) -> Self {
+        match fault {
+            ReaderFault::Memory => CommandFault::Memory,
+            ReaderFault::Device => CommandFault::Output,
+        }
     }
 }
 

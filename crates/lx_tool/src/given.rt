@@ -9,7 +9,7 @@ ghost use Rattle.lx_tool.specs.Tabling.{HasNoTables};
 
 use crate::failure::CommandFault;
 use crate::planning::list_files;
-use crate::source::{SourceFault, Sources};
+use crate::source::{SourceFault, Sources, are_bytes};
 use crate::tabling::{read_tables, tables_of_text};
 use lx_listing::LineWrites;
 use lx_piece::Input;
@@ -19,11 +19,6 @@ use std::alloc::{AllocError, Global};
 use std::io::Write;
 use std::sync::Wait;
 use std::thread::Threads;
-
-// States a fact: a byte of a slice is below 256.
-fn are_bytes(bytes: &[u8])
-    ensures { All (λ b. b < 256) bytes.now }
-{}
 
 // Reads the file with this name, up to its end or a read error.
 fn read_file<'a, S: Sources>(

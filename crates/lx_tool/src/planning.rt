@@ -1,6 +1,6 @@
 //! Lists files by tables.
 
-ghost use Rattle.std.specs.Prelude.{◌≡◌, ◌<◌, ◌≤◌, ℕ, List, Option, OnOk, OnErr, map, vec_len};
+ghost use Rattle.std.specs.Prelude.{◌≡◌, ◌<◌, ◌≤◌, ℕ, IfOk, List, Option, OnOk, OnErr, map, vec_len};
 ghost use Rattle.lx_piece.specs.Plans.{PlainInput, input_view, max_files, max_items, max_workers};
 ghost use Rattle.lx_tables.specs.Model.{Table, IsTable};
 ghost use Rattle.lx_tables.specs.Reading.{IsTextOf};
@@ -15,7 +15,7 @@ use lx_post::RunFault;
 use lx_scan::ruling::items_are_by_rules;
 use lx_tables::Tables;
 use lx_tables::uniqueness::texts_are_one_to_one;
-use std::alloc::Global;
+use std::alloc::{AllocError, Global};
 use std::io::Write;
 use std::sync::Wait;
 use std::thread::Threads;
@@ -77,6 +77,18 @@ pub fn list_files_in<T: Threads + Wait + Sync, W: Write>(
         return list_plan(rt, alloc, &plan, workers, writes, out);
     }
     list_plan_in(rt, alloc, &plan, workers, form, writes, out)
+}
+
+/// Makes a plan of one empty file. Only its tables count.
+pub(crate) fn plan_of_tables(alloc: Global, tables: Tables) -> Result<Plan, AllocError>
+    ensures { IfOk result (λ plan. plan.table ≡ tables) }
+{
+    let empty = Input {
+        bytes: Vec::new(alloc),
+        cut: false,
+    };
+    let files = vec![in alloc; empty]?;
+    Ok(Plan::new(tables, files, 1, RUN))
 }
 
 /// States a law: a listing by the tables of a specification's text has the items by its rules.

@@ -1,15 +1,16 @@
 //! Reads readers to their end.
 
-ghost use Rattle.std.specs.Prelude.{◌≡◌, ◌<◌, ◌≤◌, ◌⊎◌, ◌++◌, ℕ, List, false, IfOk, IfErr, OnOk, length, take};
+ghost use Rattle.std.specs.Prelude.{◌≡◌, ◌≢◌, ◌<◌, ◌≤◌, ◌⊎◌, ◌++◌, ℕ, List, false, IfOk, IfErr, IfSome, OnOk, length, take};
 ghost use Rattle.std.specs.Io.KnownBytes.{Consumes, IsAtEnd};
 ghost use Rattle.lx_forms.specs.NameLists.{separators};
 ghost use Rattle.lx_tool.specs.declared.source.SourceFault.{SourceFault};
-ghost use Rattle.lx_tool.specs.Sources.{ReadsOn};
+ghost use Rattle.lx_tool.specs.Sources.{ReadsOn, TakesOn};
 
-use crate::source::SourceFault;
-use lx_piece::Input;
+use crate::source::{SourceFault, are_bytes};
+use lx_listing::BlockTaker;
+use lx_piece::{Input, ReaderFault};
 use std::alloc::Global;
-use std::io::{ErrorKind, Read};
+use std::io::{self, ErrorKind, Read};
 
 // Number of bytes that one read asks for.
 const CHUNK: usize = 65_536;
@@ -26,6 +27,17 @@ enum ReadTurn {
     End,
     /// The read failed.
     Failed,
+}
+
+// Returns the result of a read with an error, or none if memory was refused.
+fn turn_of(error: &io::Error) -> Option<ReadTurn>
+    ensures { IfSome result (λ turn. turn ≢ ReadTurn.End) }
+{
+    match error.kind() {
+        ErrorKind::Interrupted => Some(ReadTurn::More),
+        ErrorKind::OutOfMemory => None,
+        _ => Some(ReadTurn::Failed),
+    }
 }
 
 // Reads once, and appends the bytes. A short read isn't the end of the file: only a read of 0 bytes is.
@@ -46,11 +58,7 @@ fn read_on<R: Read>(
             bytes.extend_from_slice(&chunk[..count])?;
             Ok(ReadTurn::More)
         }
-        Err(error) => match error.kind() {
-            ErrorKind::Interrupted => Ok(ReadTurn::More),
-            ErrorKind::OutOfMemory => Err(SourceFault::Memory),
-            _ => Ok(ReadTurn::Failed),
-        },
+        Err(error) => turn_of(&error).ok_or(SourceFault::Memory),
     }
 }
 
@@ -72,6 +80,57 @@ pub fn read_to_end<R: Read>(alloc: Global, reader: &mut R) -> Result<Input, Sour
         }
     }
     Ok(Input { bytes, cut: true })
+}
+
+// Reads once, and gives the bytes to a taker.
+fn take_on<R: Read, B: BlockTaker>(
+    reader: &mut R,
+    chunk: &mut [u8],
+    taker: &mut B,
+) -> Result<ReadTurn, ReaderFault>
+    requires { 0 < length chunk.old }
+    ensures room { length chunk.new ≡ length chunk.old }
+    ensures taken { OnOk result (TakesOn B.takes (R.remaining reader.old) (R.remaining reader.new)
+        taker.old taker.new) }
+    ensures end { IfOk result (λ turn. turn ≡ ReadTurn.End → IsAtEnd (R.remaining reader.new)) }
+{
+    match reader.read(chunk) {
+        Ok(0) => Ok(ReadTurn::End),
+        Ok(count) => {
+            let block = &chunk[..count];
+            are_bytes(block);
+            match taker.take_block(block) {
+                Ok(()) => Ok(ReadTurn::More),
+                Err(fault) => Err(fault),
+            }
+        }
+        Err(error) => turn_of(&error).ok_or(ReaderFault::Memory),
+    }
+}
+
+/// Reads all bytes of a reader to its end, and gives each block to a taker before the next read. If a read fails, the taker has the bytes before it, and
+/// the result is true. It is also true if 4,294,967,296 reads aren't enough. Retries an interrupted read. Err: a block wasn't taken, or an allocation
+/// failed.
+pub fn read_in_blocks<R: Read, B: BlockTaker>(
+    alloc: Global,
+    reader: &mut R,
+    taker: &mut B,
+) -> Result<bool, ReaderFault>
+    ensures taken { OnOk result (TakesOn B.takes (R.remaining reader.old) (R.remaining reader.new)
+        taker.old taker.new) }
+    ensures end { IfOk result (λ cut. cut ≡ false → IsAtEnd (R.remaining reader.new)) }
+{
+    let Ok(mut chunk) = vec![in alloc; 0u8; CHUNK] else {
+        return Err(ReaderFault::Memory);
+    };
+    for _ in 0..MOST_READS {
+        match take_on(reader, &mut chunk, taker)? {
+            ReadTurn::More => {}
+            ReadTurn::End => return Ok(false),
+            ReadTurn::Failed => break,
+        }
+    }
+    Ok(true)
 }
 
 // Counts the separators among the bytes.

@@ -1,10 +1,11 @@
 //! Sources of the program's files.
 
-ghost use Rattle.std.specs.Prelude.{◌≡◌, ℕ, List, [], IfOk, map, ⊤, Err};
+ghost use Rattle.std.specs.Prelude.{◌≡◌, ◌<◌, ℕ, All, List, [], IfOk, map, ⊤, Err};
 ghost use Rattle.lx_piece.specs.Plans.{PlainInput, input_view};
-ghost use Rattle.lx_tool.specs.Sources.{GivesFront, inputs_of, is_among};
+ghost use Rattle.lx_tool.specs.Sources.{GivesBlocks, GivesFront, inputs_of, is_among};
 
-use lx_piece::Input;
+use lx_listing::BlockTaker;
+use lx_piece::{Input, ReaderFault};
 use std::alloc::{AllocError, Global};
 use std::io;
 use std::marker::Model;
@@ -32,8 +33,47 @@ impl From<AllocError> for SourceFault {
     }
 }
 
+/// Reason why a file wasn't given in blocks.
+#[derive(Clone, Copy, Debug, PartialEq, Eq, Error)]
+pub enum BlocksFault {
+    /// The file can't be opened.
+    #[error("not read")]
+    NotRead,
+    /// A block wasn't taken, or an allocation failed.
+    #[error("not taken")]
+    NotTaken(ReaderFault),
+}
+
+impl From<AllocError> for BlocksFault {
+    ghost use Rattle.std.specs.Prelude.{◌≡◌};
+    ghost use Rattle.lx_piece.specs.declared.reader.ReaderFault.{ReaderFault};
+    ghost use Rattle.lx_tool.specs.declared.source.BlocksFault.{BlocksFault};
+
+    ghost from_gives = { λ _ fault. fault ≡ BlocksFault.NotTaken ReaderFault.Memory };
+
+    fn from(_error: AllocError) -> BlocksFault {
+        BlocksFault::NotTaken(ReaderFault::Memory)
+    }
+}
+
+impl From<ReaderFault> for BlocksFault {
+    ghost use Rattle.std.specs.Prelude.{◌≡◌};
+    ghost use Rattle.lx_tool.specs.declared.source.BlocksFault.{BlocksFault};
+
+    ghost from_gives = { λ given fault. fault ≡ BlocksFault.NotTaken given };
+
+    fn from(fault: ReaderFault) -> BlocksFault {
+        BlocksFault::NotTaken(fault)
+    }
+}
+
 /// The name of standard input.
 pub const STANDARD_INPUT: &str = "-";
+
+// States a fact: a byte of a slice is below 256.
+pub(crate) fn are_bytes(bytes: &[u8])
+    ensures { All (λ b. b < 256) bytes.now }
+{}
 
 /// Files by name.
 pub trait Sources {
@@ -62,6 +102,30 @@ pub trait Sources {
         ensures lacks { result ≡ Err SourceFault.NotRead → lacks self.old name.now }
     {
         self.read(alloc, name)
+    }
+
+    /// Reads the file with this name, and gives its blocks to a taker as they are read, up to the end or a read error. Returns true if a read failed. By
+    /// default gives the whole file as one block. Err: NotRead if it can't be opened; then the taker gets nothing.
+    fn read_blocks<B: BlockTaker>(
+        &mut self,
+        alloc: Global,
+        name: &str,
+        taker: &mut B,
+    ) -> Result<bool, BlocksFault>
+        ensures given { IfOk result (λ cut.
+            GivesBlocks gives B.takes self.old name.now cut taker.old taker.new self.new) }
+        ensures lacks { result ≡ Err BlocksFault.NotRead → lacks self.old name.now }
+        ensures nothing { result ≡ Err BlocksFault.NotRead → taker.new ≡ taker.old }
+    {
+        match self.read(alloc, name) {
+            Ok(input) => {
+                are_bytes(&input.bytes);
+                taker.take_block(&input.bytes)?;
+                Ok(input.cut)
+            }
+            Err(SourceFault::NotRead) => Err(BlocksFault::NotRead),
+            Err(SourceFault::Memory) => Err(BlocksFault::NotTaken(ReaderFault::Memory)),
+        }
     }
 
     /// Returns the system's reason why the last failing file wasn't read or wasn't read to its end, if it is known.
