@@ -21,7 +21,7 @@ in_first_line [] at l h = omega (arith, l)
 in_first_line (c ∷ text) zero l h = omega arith
 in_first_line (c ∷ text) (suc k) l h = begun (is_newline c) (count (take k text)) k (prefix_len is_no_newline text) h (in_first_line text k (omega (arith, l)))
 
--- what is left of a position after a line of this many bytes
+-- the rest of a position after a line of this many bytes
 abbrev Left : ℕ → List ℕ → ℕ → ℕ → Type 0
 Left p text at n = (rest : ℕ) × (at ≡ p + 1 + rest) × (count (take rest (drop (p + 1) text)) ≡ n)
 

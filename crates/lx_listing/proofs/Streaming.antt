@@ -86,7 +86,7 @@ pub ok_anyway : {T E P : Type 0} (r : Result T E) → P → OnOk r P
 ok_anyway (Ok value) p = p
 ok_anyway (Err error) p = tt
 
--- what follows from its success
+-- a consequence of its success
 pub ok_then : {T E P Q : Type 0} (r : Result T E) → OnOk r P → (P → Q) → OnOk r Q
 ok_then (Ok value) p f = f p
 ok_then (Err error) p f = tt
