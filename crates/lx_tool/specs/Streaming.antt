@@ -10,7 +10,7 @@ use Rattle.lx_tool.specs.Sources.{AreGiven}
 use Rattle.lx_tool.specs.declared.failure.CommandFault.{CommandFault}
 use Rattle.lx_tool.specs.declared.failure.CommandFault.TheVariants.{NotRead}
 
--- The sources gave the files before the one with this name, in order, and these were listed. The one with this name can't be opened.
+-- The sources gave the files before the one with this name, in order, and these were listed.
 pub record StopsAt {S : Type 0} (gives : S → List ℕ → PlainInput → S → Type 0) (Lists : List PlainInput → Type 0) (names : List (List ℕ)) (before : S) (name : List ℕ) : Type 0 where
   pub front : List (List ℕ)
   pub rest : List (List ℕ)
