@@ -50,20 +50,15 @@ files = record files_rule { index = Some 2; parser = Some parser.String }
 abbrev help : Rule
 help = record help_rule { range = Some (record { start_inclusive = 0; end_inclusive = 0 }); parser = Some parser.String }
 
--- the flag `-j`, which has a default only for `scan`
-abbrev own_rules : Listing → List Rule
-own_rules (of_run w) = one_value (workers_rule []) ∷ []
-own_rules (of_scan w) = one_value (workers_rule (codes "4" ∷ [])) ∷ []
-
 -- the options that aren't given in such arguments
 abbrev further_rules : List Rule
 further_rules =
-    filled (flag_rule (codes "names")) ∷ filled (option_rule (codes "only") (codes "only")) ∷ filled (flag_rule (codes "no-text"))
+    filled (flag_rule (codes "stream")) ∷ filled (flag_rule (codes "names")) ∷ filled (option_rule (codes "only") (codes "only")) ∷ filled (flag_rule (codes "no-text"))
     ∷ filled (option_rule (codes "format") (codes "format")) ∷ filled first_rule ∷ filled list_rule ∷ filled zeros_rule ∷ []
 
 abbrev listing : Listing → Shape
 listing b = record (new_shape (name b)) {
-  rules = own_rules b ++ one_value items_rule ∷ (further_rules ++ rules b ∷ files ∷ help ∷ []);
+  rules = one_value workers_rule ∷ one_value items_rule ∷ (further_rules ++ rules b ∷ files ∷ help ∷ []);
   disable_help_subcommand = true;
   is_built = true;
 }
@@ -370,12 +365,6 @@ defaults_pass (of_scan (Some j)) (Some k) r fs = refl
 abbrev default_row : Text → Text → Row
 default_row id k = record { id = id; values = k ∷ []; count = None; source = Some DefaultValue; reading = reading.WithoutMinus }
 
-abbrev workers_default : Listing → List Row
-workers_default (of_run None) = []
-workers_default (of_run (Some j)) = []
-workers_default (of_scan None) = default_row (codes "workers") (codes "4") ∷ []
-workers_default (of_scan (Some j)) = []
-
 abbrev items_default : Option Text → List Row
 items_default None = default_row (codes "items") (codes "256") ∷ []
 items_default (Some k) = []
@@ -385,11 +374,11 @@ abbrev flag_row : Text → Row
 flag_row id = record (default_row id (codes "false")) { reading = reading.AsWritten }
 
 abbrev further_defaults : List Row
-further_defaults = flag_row (codes "names") ∷ flag_row (codes "no-text") ∷ default_row (codes "first") (codes "0") ∷ flag_row (codes "zeros") ∷ []
+further_defaults = flag_row (codes "stream") ∷ flag_row (codes "names") ∷ flag_row (codes "no-text") ∷ default_row (codes "first") (codes "0") ∷ flag_row (codes "zeros") ∷ []
 
 -- the rows with those at the end
 abbrev end_rows : Listing → Option Text → Text → List Text → List Row
-end_rows b o r fs = settled_rows b o r fs ++ (workers_default b ++ (items_default o ++ further_defaults))
+end_rows b o r fs = settled_rows b o r fs ++ (items_default o ++ further_defaults)
 
 finishes : (b : Listing) (o : Option Text) (r : Text) (fs : List Text) → fold with_default (settled_rows b o r fs) (listing b).rules ≡ end_rows b o r fs
 finishes (of_run None) None r fs = refl

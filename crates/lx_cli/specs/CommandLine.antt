@@ -49,13 +49,12 @@ items_rule = record (new_rule (codes "items")) {
   defaults = codes "256" ∷ [];
 }
 
--- `-j N`, from 1 to `max_workers`, with these defaults
-abbrev pub workers_rule : List Text → Rule
-workers_rule defaults = record (new_rule (codes "workers")) {
+-- `-j N`, from 1 to `max_workers`
+abbrev pub workers_rule : Rule
+workers_rule = record (new_rule (codes "workers")) {
   short = Some 106;
   value_names = 1;
   parser = Some (Signed (pos 1) (pos max_workers));
-  defaults = defaults;
 }
 
 -- an option with a value
@@ -147,9 +146,10 @@ with_form app =
 abbrev pub with_list : App → App
 with_list app = with_rule (with_rule (with_rule app first_rule) list_rule) zeros_rule
 
--- `[-j N] [-b K]`, the form, LIST, SPEC or TABLES, and FILE..
-abbrev pub list_app : Text → List Text → Text → App
-list_app name workers id = with_rule (with_rule (with_list (with_form (with_rule (with_rule (new_app name) (workers_rule workers)) items_rule))) (rules_rule id)) files_rule
+-- `[-j N] [-b K] [--stream]`, the form, LIST, SPEC or TABLES, and FILE..
+abbrev pub list_app : Text → Text → App
+list_app name id =
+    with_rule (with_rule (with_list (with_form (with_rule (with_rule (with_rule (new_app name) workers_rule) items_rule) (flag_rule (codes "stream"))))) (rules_rule id)) files_rule
 
 -- a subcommand has to be given, and none is `help`; there is a version
 abbrev pub bare_app : App
@@ -159,7 +159,7 @@ bare_app = on_top (λ s. record s { disable_help_subcommand = true; subcommand_r
 abbrev pub with_listings : App → App
 with_listings app = with_subcommand (with_subcommand (with_subcommand (with_subcommand app
     (one_file_app (codes "gen") (codes "SPEC")).top) (one_file_app (codes "up") (codes "TABLES")).top)
-    (list_app (codes "scan") (codes "4" ∷ []) (codes "TABLES")).top) (list_app (codes "run") [] (codes "SPEC")).top
+    (list_app (codes "scan") (codes "TABLES")).top) (list_app (codes "run") (codes "SPEC")).top
 
 -- the commands that help to write a specification
 abbrev pub with_further : App → App
@@ -184,11 +184,12 @@ pub record PlainFormWords : Type 0 where
   pub text : Bool
   pub format : Option Text
 
--- a listing: the number of workers that scan the files, with 0 for the calling thread; the number of items of a piece; the name of the specification
--- or of the tables; the names of the files; LIST, if it is given; and the form
+-- a listing: the number of workers that scan the files, with 0 for the calling thread; the number of items of a piece; a flag for files that are listed
+-- while they are read; the name of the specification or of the tables; the names of the files; LIST, if it is given; and the form
 pub record PlainOrder : Type 0 where
   pub workers : ℕ
   pub per_piece : ℕ
+  pub stream : Bool
   pub rules : Text
   pub files : List Text
   pub list : Option PlainList
@@ -284,11 +285,12 @@ form_in rows = record {
   format = first_of (codes "format") rows;
 }
 
--- a listing, by `workers` workers if `-j` isn't given
+-- a listing, by `workers` workers if `-j` isn't given, or on the calling thread with `--stream`
 abbrev pub request_in : Text → ℕ → List Row → PlainOrder
 request_in id workers rows = record {
-  workers = workers_in workers rows;
+  workers = workers_in (if flag_in (codes "stream") rows then 0 else workers) rows;
   per_piece = items_in rows;
+  stream = flag_in (codes "stream") rows;
   rules = rules_in id rows;
   files = values_in (codes "FILE") rows;
   list = list_in rows;
@@ -392,6 +394,7 @@ abbrev pub plain_order : ListRequest → PlainOrder
 plain_order o = record {
   workers = o.workers;
   per_piece = o.per_piece;
+  stream = o.stream;
   rules = o.rules.now;
   files = map (λ name. name.now) o.files.items;
   list = option_map plain_list o.list;
@@ -488,6 +491,7 @@ abbrev pub plain_listing : ℕ → ℕ → Text → List Text → PlainOrder
 plain_listing workers per_piece rules files = record {
   workers = workers;
   per_piece = per_piece;
+  stream = false;
   rules = rules;
   files = files;
   list = None;

@@ -76,7 +76,7 @@ const FLEX: Argument = Argument {
 const FILES: Argument = Argument {
     id: "FILE",
     form: ArgumentForm::Several,
-    help: "The files, in the order of the listing; - is standard input, of which nothing is listed before its end",
+    help: "The files, in the order of the listing; - is standard input, of which nothing is listed before its end without --stream",
 };
 
 // Options of `gen` and `up`.
@@ -125,10 +125,10 @@ const SCAN_WORKERS: Argument = Argument {
         NumberRange {
             least: 1,
             most: MAX_WORKERS as i64,
-            default: Some("4"),
+            default: None,
         },
     ),
-    help: "With how many threads the files are scanned, from 1 to 8",
+    help: "With how many threads the files are scanned, from 1 to 8; 4 if it isn't given",
 };
 
 const RUN_WORKERS: Argument = Argument {
@@ -157,6 +157,12 @@ const ITEMS: Argument = Argument {
         },
     ),
     help: "How many items are handed on at a time, from 1 to 4096; the listing is the same",
+};
+
+const STREAM: Argument = Argument {
+    id: "stream",
+    form: ArgumentForm::Flag(Name::Long("stream")),
+    help: "Lists each file while it is read, on one thread and in memory that doesn't grow",
 };
 
 const NAMES: Argument = Argument {
@@ -286,6 +292,7 @@ const UP: &[Argument] = &[TARGET, SCANNER, HEADER, PREFIX, INCLUDE, DIRECT, TABL
 const SCAN: &[Argument] = &[
     SCAN_WORKERS,
     ITEMS,
+    STREAM,
     NAMES,
     ONLY,
     NO_TEXT,
@@ -300,6 +307,7 @@ const SCAN: &[Argument] = &[
 const RUN: &[Argument] = &[
     RUN_WORKERS,
     ITEMS,
+    STREAM,
     NAMES,
     ONLY,
     NO_TEXT,

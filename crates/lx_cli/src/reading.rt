@@ -156,7 +156,7 @@ fn c_words_of<'a>(found: &ArgMatches<'a>) -> CWords<'a>
     }
 }
 
-// Reads a listing request. `workers` is the default of `-j`.
+// Reads a listing request. `workers` is the default of `-j`, except with `--stream`.
 fn list_request_of<'a>(
     alloc: Global,
     found: &ArgMatches<'a>,
@@ -167,9 +167,12 @@ fn list_request_of<'a>(
     ensures { IfOk result (λ request.
         plain_order request ≡ request_in rules.now workers (rows_of (found_of found.now))) }
 {
+    let stream = has_flag(found, "stream");
+    let workers = if stream { ALONE } else { workers };
     Ok(ListRequest {
         workers: workers_of(found, workers),
         per_piece: items_of(found),
+        stream,
         rules: rules_of(found, rules),
         files: values_of(alloc, found, "FILE")?,
         list: list_of(found),

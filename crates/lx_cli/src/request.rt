@@ -120,6 +120,8 @@ pub struct ListRequest<'a> {
     pub workers: u8,
     /// Number of items of a piece.
     pub per_piece: u32,
+    /// `--stream`: lists each file while it is read.
+    pub stream: bool,
     /// Name of the specification, or of the tables.
     pub rules: &'a str,
     /// Names of the files.

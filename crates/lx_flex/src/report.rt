@@ -201,7 +201,7 @@ impl<T: Drop> From<AllocFailed<T>> for ReadFault {
 /// Reason why a file isn't imported.
 #[derive(Debug, Drop)]
 pub enum ImportFault {
-    /// The reports, in the order of the text. At least one of them is fatal.
+    /// The reports, in the order of the text. At least one of them is fatal, or one of those that are left out after the first 1,000.
     Refused(Vec<ImportReport>),
     /// An allocation failed.
     Memory,
