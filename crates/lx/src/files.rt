@@ -114,16 +114,22 @@ impl<'a, R: AllocGlobal + Env + Files + StandardInput> FileSources<'a, R> {
         Ok(())
     }
 
-    // Keeps the reason why a file can't be opened.
-    fn refuse(&mut self, error: &Error) -> SourceFault {
-        self.reason = Reason::of(error);
-        fault_of(error)
-    }
-
-    // Counts a file as cut before its first byte, so that the other files of a directory are listed.
-    fn leave_out(&mut self) -> Result<(), AllocError> {
-        self.reason = Some(Reason::NotUtf8);
-        self.cut()
+    // Opens the file with this name. Returns none for a name that isn't UTF-8: such a file counts as cut before its first byte, so that the other files
+    // of a directory are listed.
+    fn open(&mut self, alloc: Global, name: &str) -> Result<Option<R::File>, SourceFault> {
+        let bytes = name_bytes(alloc, name)?;
+        let Ok(path) = str::from_utf8(&bytes) else {
+            self.reason = Some(Reason::NotUtf8);
+            self.cut()?;
+            return Ok(None);
+        };
+        match File::open(self.rt, path) {
+            Ok(file) => Ok(Some(file)),
+            Err(error) => {
+                self.reason = Reason::of(&error);
+                Err(fault_of(&error))
+            }
+        }
     }
 
     // Reads the wanted part of the file with this name.
@@ -137,17 +143,12 @@ impl<'a, R: AllocGlobal + Env + Files + StandardInput> FileSources<'a, R> {
             let input = self.rt.reader();
             return self.read_file(alloc, input, wanted);
         }
-        let bytes = name_bytes(alloc, name)?;
-        let Ok(path) = str::from_utf8(&bytes) else {
-            self.leave_out()?;
-            return Ok(Input {
+        match self.open(alloc, name)? {
+            Some(file) => self.read_file(alloc, file, wanted),
+            None => Ok(Input {
                 bytes: Vec::new(alloc),
                 cut: true,
-            });
-        };
-        match File::open(self.rt, path) {
-            Ok(file) => self.read_file(alloc, file, wanted),
-            Err(error) => Err(self.refuse(&error)),
+            }),
         }
     }
 }
@@ -186,18 +187,14 @@ impl<R: AllocGlobal + Env + Files + StandardInput> Sources for FileSources<'_, R
             let input = self.rt.reader();
             return Ok(self.give_file(alloc, input, taker)?);
         }
-        let bytes = name_bytes(alloc, name)?;
-        let Ok(path) = str::from_utf8(&bytes) else {
-            self.leave_out()?;
-            taker.take_block(&[])?;
-            return Ok(true);
-        };
-        match File::open(self.rt, path) {
-            Ok(file) => Ok(self.give_file(alloc, file, taker)?),
-            Err(error) => match self.refuse(&error) {
-                SourceFault::NotRead => Err(BlocksFault::NotRead),
-                SourceFault::Memory => Err(BlocksFault::NotTaken(ReaderFault::Memory)),
-            },
+        match self.open(alloc, name) {
+            Ok(Some(file)) => Ok(self.give_file(alloc, file, taker)?),
+            Ok(None) => {
+                taker.take_block(&[])?;
+                Ok(true)
+            }
+            Err(SourceFault::NotRead) => Err(BlocksFault::NotRead),
+            Err(SourceFault::Memory) => Err(BlocksFault::NotTaken(ReaderFault::Memory)),
         }
     }
 

@@ -1,6 +1,6 @@
 -- The arguments' request was carried out, or failed for a reason.
 use Rattle.std.proofs.Common.{ℕ, zero, suc, ◌≡◌, ◌≢◌, ◌<◌, List, [], ◌∷◌, ◌++◌, Option, Some, None, All, Bor, Ok, Err, Result, IfOk, IfErr, inl, inr, length, arith, refl, sym, ◌∙◌, ap, ap₂, subst, true}
-use Rattle.std.specs.Prelude.{◌⊎◌, Contains, IfSome, IsOk, MatchOption, OnOk}
+use Rattle.std.specs.Prelude.{◌⊎◌, Contains, IfSome, IsOk, IsSomeAnd, MatchOption, OnOk}
 use Rattle.std.proofs.lemmas.List.{length-map}
 use Rattle.std.specs.Io.KnownBytes.{Keeps, Appends}
 use Rattle.std.proofs.lemmas.List.Elements.{All-cons, All-nil, All-from_recursion}
@@ -9,19 +9,21 @@ use Rattle.lx_piece.specs.Plans.{PlainInput, max_files}
 use Rattle.lx_tables.specs.Output.{Wrote}
 use Rattle.lx_c.specs.Options.{Options, named}
 use Rattle.lx_cli.specs.CommandLine.{Asked, PlainC, PlainCheck, PlainFormWords, PlainImport, PlainOrder, PlainPrint, PlainShow, stored, run, scan, gen, up, check, explain, show, imports}
-use Rattle.lx_tool.specs.Commands.{AreRulesRefused, AreWordsRefused, HasDone, HasEnded, HasFailed, HasObeyed, HasToldFailure, IsCutShort, IsFormRefused, IsPrinted, IsRefused, IsRefusedLater, files_asked, inputs_asked, names_asked, stored_specification, stored_text}
+use Rattle.lx_tool.specs.Commands.{AreRulesRefused, AreWordsRefused, HasDone, HasEnded, HasFailed, HasFailedOrStopped, HasObeyed, HasToldFailure, IsCutShort, IsFormRefused, IsPrinted, IsRefused, IsRefusedLater, IsStopped, IsTold, files_asked, inputs_asked, names_asked, stored_specification, stored_text}
 use Rattle.lx_tool.specs.Checking.{IsChecked, IsReported, IsWarningFault}
 use Rattle.lx_tool.specs.Explaining.{IsExplained, IsUnexplained}
 use Rattle.lx_tool.specs.Given.{AreListed, IsNoTable, IsUnread}
 use Rattle.lx_tool.specs.Importing.{AreImportWordsRefused, IsNotImported, IsUnplaced}
 use Rattle.lx_tool.specs.Outputs.{IsRefusedFor}
 use Rattle.lx_tool.specs.Naming.{IsListingRefused, IsWordsFault, input_uses}
-use Rattle.lx_tool.specs.Planning.{AreBytes, ListsByRules, ListsByRulesIn, ListsByTextIn}
+use Rattle.lx_tool.specs.Planning.{AreBytes, ListsAsked, ListsByRules, ListsByRulesIn, ListsByTextIn}
 use Rattle.lx_tool.specs.Showing.{HasManyStates, HasNoneShown, IsNotShown, IsShown}
 use Rattle.lx_tool.specs.Sources.{texts_of, whole}
+use Rattle.lx_tool.specs.Streaming.{HasStopped, HasStoppedFor}
 use Rattle.lx_tool.specs.Statuses.{HasStatusOfCut, HidesNoMemory, WroteReport, report_in, status_of}
 use Rattle.lx_tool.specs.Printing.{AreKindsRefused, AreScannerWordsRefused, FailsPrinting, IsScannerFault, IsWritten, PrintsSpecification, PrintsTables}
 use Rattle.lx_tool.specs.Tabling.{HasNoTables}
+use Rattle.lx_tool.proofs.StreamedFiles.{stops_as_well}
 use Rattle.lx_tool.specs.declared.failure.CommandFault.{CommandFault}
 use Rattle.lx_tool.specs.declared.failure.RequestFault.{RequestFault}
 use Rattle.lx_tool.specs.declared.failure.RequestFault.TheVariants.{FlexLater, NoTargets, Outputs}
@@ -63,17 +65,12 @@ module _ (old mid new : Option (List ℕ)) (kept : Keeps mid new) where
   rules_in_kept words text names inputs l =
       record { spec = l.spec; read = l.read; plan = l.plan; by_rules = l.by_rules; of_spec = l.of_spec; form = l.form; asked = l.asked; wrote = appends_kept old mid new _ l.wrote kept }
 
+  asked_kept : (words : PlainFormWords) (table : Table) (names : List (List ℕ)) (inputs : List PlainInput) → ListsAsked words table names inputs old mid → ListsAsked words table names inputs old new
+  asked_kept words table names inputs l =
+      record { form = l.form; asked = l.asked; listed = record { plan = l.listed.plan; by_tables = l.listed.by_tables; wrote = appends_kept old mid new _ l.listed.wrote kept } }
+
   text_in_kept : (words : PlainFormWords) (text : List ℕ) (names : List (List ℕ)) (inputs : List PlainInput) → ListsByTextIn words text names inputs old mid → ListsByTextIn words text names inputs old new
-  text_in_kept words text names inputs l = record {
-    table = l.table;
-    is_table = l.is_table;
-    of_text = l.of_text;
-    listed = record {
-      form = l.listed.form;
-      asked = l.listed.asked;
-      listed = record { plan = l.listed.listed.plan; by_tables = l.listed.listed.by_tables; wrote = appends_kept old mid new _ l.listed.listed.wrote kept };
-    };
-  }
+  text_in_kept words text names inputs l = record { table = l.table; is_table = l.is_table; of_text = l.of_text; listed = asked_kept words l.table names inputs l.listed }
 
   written_kept : (target : Option (List ℕ)) (text : List ℕ) → IsWritten target text old mid → IsWritten target text old new
   written_kept None text h = wrote_kept old mid new text h kept
@@ -119,6 +116,65 @@ module _ (old mid new : Option (List ℕ)) (kept : Keeps mid new) where
     obeyed_kept (Some (explain word)) h = (record { said = h.0.said; wrote = appends_kept old mid new _ h.0.wrote kept; begins = h.0.begins }, h.1)
     obeyed_kept (Some (show s)) h = (shown_kept s h.0, h.1)
     obeyed_kept (Some (imports i)) h = (record { text = h.0.text; given = h.0.given; printed = h.0.printed; of_flex = h.0.of_flex; written = written_kept i.target h.0.printed h.0.written }, h.1)
+
+  -- so is a listing that stopped
+  stopped_kept : {S : Type 0} (gives : S → List ℕ → PlainInput → S → Type 0) (order : PlainOrder) (table : Table) (before : S) (failure : CommandFault) →
+      HasStopped gives order table before old mid failure → HasStopped gives order table before old new failure
+  stopped_kept gives order table before failure s = record {
+    asked = s.asked;
+    names = s.names;
+    between = s.between;
+    named = s.named;
+    judged = s.judged;
+    stopped = (
+      s.stopped.0,
+      s.stopped.1,
+      stops_as_well gives (λ inputs. ListsAsked order.form table s.names inputs old mid) (λ inputs. ListsAsked order.form table s.names inputs old new) (asked_kept order.form table s.names) s.names s.between s.stopped.0.now s.stopped.2,
+    );
+  }
+
+  listing_stopped_kept : {S : Type 0} (gives : S → List ℕ → PlainInput → S → Type 0) (before : S) (failure : CommandFault) (asked : Option Asked) →
+      IsSomeAnd asked (IsStopped gives before old mid failure) → IsSomeAnd asked (IsStopped gives before old new failure)
+  listing_stopped_kept gives before failure None h = h
+  listing_stopped_kept gives before failure (Some stored) h = h
+  listing_stopped_kept gives before failure (Some (run order)) h =
+      record { text = h.text; between = h.between; given = h.given; table = h.table; tables = h.tables; holds = stopped_kept gives order h.table h.between failure h.holds }
+  listing_stopped_kept gives before failure (Some (scan order)) h =
+      record { text = h.text; between = h.between; given = h.given; table = h.table; tables = h.tables; holds = stopped_kept gives order h.table h.between failure h.holds }
+  listing_stopped_kept gives before failure (Some (gen print)) h = h
+  listing_stopped_kept gives before failure (Some (up print)) h = h
+  listing_stopped_kept gives before failure (Some (check c)) h = h
+  listing_stopped_kept gives before failure (Some (explain word)) h = h
+  listing_stopped_kept gives before failure (Some (show s)) h = h
+  listing_stopped_kept gives before failure (Some (imports i)) h = h
+
+-- the cause for which it stopped has no report
+stopped_without_report : {S : Type 0} (gives : S → List ℕ → PlainInput → S → Type 0) (names : List (List ℕ)) (between : S) (Lists : List PlainInput → Type 0) (failure : CommandFault) (mid new : Option (List ℕ)) →
+    HasStoppedFor gives Lists names between failure → WroteReport failure mid new → Keeps mid new
+stopped_without_report gives names between Lists failure mid new s wrote = subst (λ (f : CommandFault). WroteReport f mid new) s.1 wrote
+
+listing_stopped_without_report : {S : Type 0} (gives : S → List ℕ → PlainInput → S → Type 0) (before : S) (failure : CommandFault) (old mid new : Option (List ℕ)) (asked : Option Asked) →
+    IsSomeAnd asked (IsStopped gives before old mid failure) → WroteReport failure mid new → Keeps mid new
+listing_stopped_without_report gives before failure old mid new None h wrote = absurd h
+listing_stopped_without_report gives before failure old mid new (Some stored) h wrote = absurd h
+listing_stopped_without_report gives before failure old mid new (Some (run order)) h wrote =
+    let s = h.holds in stopped_without_report gives s.names s.between (λ inputs. ListsAsked order.form h.table s.names inputs old mid) failure mid new s.stopped wrote
+listing_stopped_without_report gives before failure old mid new (Some (scan order)) h wrote =
+    let s = h.holds in stopped_without_report gives s.names s.between (λ inputs. ListsAsked order.form h.table s.names inputs old mid) failure mid new s.stopped wrote
+listing_stopped_without_report gives before failure old mid new (Some (gen print)) h wrote = absurd h
+listing_stopped_without_report gives before failure old mid new (Some (up print)) h wrote = absurd h
+listing_stopped_without_report gives before failure old mid new (Some (check c)) h wrote = absurd h
+listing_stopped_without_report gives before failure old mid new (Some (explain word)) h wrote = absurd h
+listing_stopped_without_report gives before failure old mid new (Some (show s)) h wrote = absurd h
+listing_stopped_without_report gives before failure old mid new (Some (imports i)) h wrote = absurd h
+
+either : (A B C D : Type 0) → (A → C) → (B → D) → A ⊎ B → C ⊎ D
+either A B C D left right (inl a) = inl (left a)
+either A B C D left right (inr b) = inr (right b)
+
+pub failed_or_stopped : {S : Type 0} (gives : S → List ℕ → PlainInput → S → Type 0) (asked : Option Asked) (before : S) (old new : Option (List ℕ)) (failure : CommandFault) →
+    HasFailed gives asked before old new failure → HasFailedOrStopped gives asked before old new failure
+failed_or_stopped gives asked before old new failure h = λ low. inl (h low)
 
 -- ---- refusals
 
@@ -179,7 +235,7 @@ module _ {S : Type 0} (gives : S → List ℕ → PlainInput → S → Type 0) (
   words_refused asked order many twice form kept failure (inr (inr h)) = rw h.1 (λ low. record { cause = inl (form h.0 h.2); tells = tt; kept = kept })
 
   -- a listing was rejected once its tables were made
-  pub later_refused : (asked : Asked) (order : PlainOrder) (table : Table) (between : S) → ((failure : CommandFault) → IsListingRefused gives order table between failure → IsRefusedLater gives before asked failure) →
+  later_refused : (asked : Asked) (order : PlainOrder) (table : Table) (between : S) → ((failure : CommandFault) → IsListingRefused gives order table between failure → IsRefusedLater gives before asked failure) →
       (failure : CommandFault) → (status_of failure < 4 → IsListingRefused gives order table between failure × HidesNoMemory failure × Keeps old new) → HasFailed gives (Some asked) before old new failure
   later_refused asked order table between later (Specification fault) h = λ low. absurd (h low).0
   later_refused asked order table between later (Automaton fault) h = λ low. absurd (h low).0
@@ -192,6 +248,15 @@ module _ {S : Type 0} (gives : S → List ℕ → PlainInput → S → Type 0) (
   later_refused asked order table between later (NotRead name) h = λ low. record { cause = inr (later (NotRead name) (h low).0); tells = tt; kept = (h low).2 }
   later_refused asked order table between later Output h = λ low. absurd (omega (arith, low))
   later_refused asked order table between later Memory h = λ low. absurd (omega (arith, low))
+
+  -- or it stopped
+  pub later_stopped : (asked : Asked) (order : PlainOrder) (table : Table) (between : S) → ((failure : CommandFault) → IsListingRefused gives order table between failure → IsRefusedLater gives before asked failure) →
+      ((failure : CommandFault) → HasStopped gives order table between old new failure → IsStopped gives before old new failure asked) → (failure : CommandFault) →
+      (status_of failure < 4 → (IsListingRefused gives order table between failure × HidesNoMemory failure × Keeps old new) ⊎ HasStopped gives order table between old new failure) → HasFailedOrStopped gives (Some asked) before old new failure
+  later_stopped asked order table between later stopped failure h = λ low.
+      either (IsListingRefused gives order table between failure × HidesNoMemory failure × Keeps old new) (HasStopped gives order table between old new failure)
+      (IsRefused gives (Some asked) before old new failure) (IsStopped gives before old new failure asked)
+      (λ r. later_refused asked order table between later failure (λ l. r) low) (stopped failure) (h low)
 
   -- a name among its arguments can't be read
   pub rules_unread : (asked : Asked) (name : List ℕ) → Contains (names_asked asked) name → Keeps old new → (failure : CommandFault) → IsUnread (name ∷ []) failure → HasFailed gives (Some asked) before old new failure
@@ -331,14 +396,15 @@ module _ (old mid new : Option (List ℕ)) where
   said_ok Holds ended (Ok v) h k = let held : Holds v mid = rw k.0 at h in subst (λ n. Holds v n) (sym k.1) held
   said_ok Holds ended (Err failure) h k = tt
 
-  pub said_err : {S V : Type 0} (gives : S → List ℕ → PlainInput → S → Type 0) (asked : Option Asked) (before : S) (ended said : Result V CommandFault) → IfErr ended (HasFailed gives asked before old mid) →
+  pub said_err : {S V : Type 0} (gives : S → List ℕ → PlainInput → S → Type 0) (asked : Option Asked) (before : S) (ended said : Result V CommandFault) → IfErr ended (HasFailedOrStopped gives asked before old mid) →
       IfErr said (λ failure. status_of failure < 4 → (ended ≡ Err failure) × WroteReport failure mid new) → IfErr said (HasToldFailure gives asked before old new)
   said_err gives asked before ended (Ok v) h k = tt
   said_err gives asked before ended (Err failure) h k = λ low.
       let wrote = k low in
-      let failed : HasFailed gives asked before old mid failure = rw wrote.0 at h in
-      let refused = failed low in
-      record { cause = refused.cause; tells = refused.tells; wrote = kept_wrote (report_in failure) refused.kept wrote.1 }
+      let failed : HasFailedOrStopped gives asked before old mid failure = rw wrote.0 at h in
+      either (IsRefused gives asked before old mid failure) (IsSomeAnd asked (IsStopped gives before old mid failure)) (IsTold gives asked before old new failure) (IsSomeAnd asked (IsStopped gives before old new failure))
+      (λ refused. record { cause = refused.cause; tells = refused.tells; wrote = kept_wrote (report_in failure) refused.kept wrote.1 })
+      (λ stopped. listing_stopped_kept old mid new (listing_stopped_without_report gives before failure old mid new asked stopped wrote.1) gives before failure asked stopped) (failed low)
 
 -- the contents of the output remain when they are flushed
 module _ (old mid new : Option (List ℕ)) (kept : Keeps mid new) where
@@ -357,8 +423,8 @@ module _ (old mid new : Option (List ℕ)) (kept : Keeps mid new) where
     sent_err ended (Ok cut) h k = tt
     sent_err ended (Err failure) h k = λ low.
         let told : HasToldFailure gives asked before old mid failure = rw (k low) at h in
-        let t = told low in
-        record { cause = t.cause; tells = t.tells; wrote = report_kept (report_in failure) t.wrote }
+        either (IsTold gives asked before old mid failure) (IsSomeAnd asked (IsStopped gives before old mid failure)) (IsTold gives asked before old new failure) (IsSomeAnd asked (IsStopped gives before old new failure))
+        (λ t. record { cause = t.cause; tells = t.tells; wrote = report_kept (report_in failure) t.wrote }) (listing_stopped_kept old mid new kept gives before failure asked) (told low)
 
 pub sent_as_well : {V : Type 0} (A P : Type 0) (ended sent : Result V CommandFault) → IfOk ended (λ cut. P) → IfOk sent (λ cut. (ended ≡ Ok cut) × A) → IfOk sent (λ cut. P)
 sent_as_well A P ended (Ok cut) h k = rw k.0 at h

@@ -14,6 +14,7 @@ use Rattle.lx_tool.specs.Naming.{AreFileNames, AreJudged, IsListingRefused, IsWo
 use Rattle.lx_tool.specs.Planning.{ListsAsked, ListsByRules, ListsByRulesIn, ListsByTextIn}
 use Rattle.lx_tool.specs.Showing.{IsNotShown, IsShown}
 use Rattle.lx_tool.specs.Sources.{whole}
+use Rattle.lx_tool.specs.Streaming.{HasStopped}
 use Rattle.lx_tool.specs.Statuses.{HidesNoMemory, WroteReport, status_of}
 use Rattle.lx_tool.specs.Printing.{AreKindsOfSpecificationRefused, AreKindsOfTablesRefused, IsPlaced, IsScannerFault, IsWritten, PrintsSpecification, PrintsTables}
 use Rattle.lx_tool.specs.Tabling.{AreTablesIn, AreTablesOfText, HasNoTables}
@@ -186,6 +187,18 @@ IsRefusedLater gives before (explain word) failure = ⊥
 IsRefusedLater gives before (show s) failure = ⊥
 IsRefusedLater gives before (imports i) failure = ⊥
 
+-- A listing with `--stream` was written up to a file that can't be opened.
+abbrev pub IsStopped : {S : Type 0} → (S → List ℕ → PlainInput → S → Type 0) → S → Option (List ℕ) → Option (List ℕ) → CommandFault → Asked → Type 0
+IsStopped gives before old new failure stored = ⊥
+IsStopped gives before old new failure (run order) = RulesGiven gives AreTablesOfText order before (λ table between. HasStopped gives order table between old new failure)
+IsStopped gives before old new failure (scan order) = RulesGiven gives AreTablesIn order before (λ table between. HasStopped gives order table between old new failure)
+IsStopped gives before old new failure (gen print) = ⊥
+IsStopped gives before old new failure (up print) = ⊥
+IsStopped gives before old new failure (check c) = ⊥
+IsStopped gives before old new failure (explain word) = ⊥
+IsStopped gives before old new failure (show s) = ⊥
+IsStopped gives before old new failure (imports i) = ⊥
+
 -- `-o` is given, and no files can be made, or its file is the input
 abbrev pub IsTargetRefused : PlainPrint → RequestFault → Type 0
 IsTargetRefused print fault = ((fault ≡ NoTargets) × (print.target ≢ None)) ⊎ ((f : OutputFault) × (fault ≡ Outputs f) × IsOverwritten f print.target print.rules)
@@ -243,6 +256,10 @@ pub record IsRefused {S : Type 0} (gives : S → List ℕ → PlainInput → S �
 abbrev pub HasFailed : {S : Type 0} → (S → List ℕ → PlainInput → S → Type 0) → Option Asked → S → Option (List ℕ) → Option (List ℕ) → CommandFault → Type 0
 HasFailed gives asked before old new failure = status_of failure < 4 → IsRefused gives asked before old new failure
 
+-- The same, or its listing stopped at a file.
+abbrev pub HasFailedOrStopped : {S : Type 0} → (S → List ℕ → PlainInput → S → Type 0) → Option Asked → S → Option (List ℕ) → Option (List ℕ) → CommandFault → Type 0
+HasFailedOrStopped gives asked before old new failure = status_of failure < 4 → IsRefused gives asked before old new failure ⊎ IsSomeAnd asked (IsStopped gives before old new failure)
+
 -- The request was not carried out, for a cause that isn't the output or memory. Only the report of `check` was written, if there is one.
 pub record IsTold {S : Type 0} (gives : S → List ℕ → PlainInput → S → Type 0) (asked : Option Asked) (before : S) (old new : Option (List ℕ)) (failure : CommandFault) : Type 0 where
   pub cause : MatchOption asked (status_of failure ≡ 2) (λ a. HasCause gives before a failure)
@@ -250,10 +267,10 @@ pub record IsTold {S : Type 0} (gives : S → List ℕ → PlainInput → S → 
   pub wrote : WroteReport failure old new
 
 abbrev pub HasToldFailure : {S : Type 0} → (S → List ℕ → PlainInput → S → Type 0) → Option Asked → S → Option (List ℕ) → Option (List ℕ) → CommandFault → Type 0
-HasToldFailure gives asked before old new failure = status_of failure < 4 → IsTold gives asked before old new failure
+HasToldFailure gives asked before old new failure = status_of failure < 4 → IsTold gives asked before old new failure ⊎ IsSomeAnd asked (IsStopped gives before old new failure)
 
--- The facts at an exit status from 1 to 3: a cut file, or the cause for which the arguments were rejected or not carried out.
+-- The facts at an exit status from 1 to 3: a cut file, the cause for which the arguments were rejected or not carried out, or a listing that stopped.
 abbrev pub HasEnded : {S : Type 0} → (S → List ℕ → PlainInput → S → Type 0) → Option Asked → S → S → Option (List ℕ) → Option (List ℕ) → ℕ → Type 0
 HasEnded gives asked before after old new status =
     ((status ≡ 3) × IsCutShort gives asked before after old new)
-    ⊎ ((failure : CommandFault) × (status ≡ status_of failure) × IsTold gives asked before old new failure)
+    ⊎ ((failure : CommandFault) × (status ≡ status_of failure) × (IsTold gives asked before old new failure ⊎ IsSomeAnd asked (IsStopped gives before old new failure)))

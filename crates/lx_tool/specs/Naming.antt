@@ -1,5 +1,5 @@
 -- The files that a listing's arguments name, and those that LIST names after them; and the form that the arguments ask for.
-use Rattle.std.specs.Prelude.{◌≡◌, ◌≢◌, ℕ, ◌+◌, ◌-◌, ◌<◌, ◌≤◌, ◌⊎◌, ⊤, Bool, if◌then◌else◌, List, [], ◌∷◌, Option, Some, None, Contains, IsSomeAnd, MatchOption, codes, length, map}
+use Rattle.std.specs.Prelude.{◌≡◌, ◌≢◌, ℕ, ◌+◌, ◌-◌, ◌<◌, ◌≤◌, ◌⊎◌, ⊤, Bool, true, if◌then◌else◌, List, [], ◌∷◌, Option, Some, None, Contains, IsSomeAnd, MatchOption, codes, length, map}
 use Rattle.std.specs.Option.{option_map_or}
 use Rattle.std.specs.Str.{bytes_eq}
 use Rattle.lx_tables.specs.Model.{Table}
@@ -17,7 +17,7 @@ use Rattle.lx_tool.specs.Statuses.{failure_of_choice}
 use Rattle.lx_tool.specs.declared.failure.CommandFault.{CommandFault}
 use Rattle.lx_tool.specs.declared.failure.CommandFault.TheVariants.{Specification, Automaton, Tables, Unprintable, Words, TooManyFiles, InputTwice, Refused, NotRead, Output, Memory}
 use Rattle.lx_tool.specs.declared.failure.RequestFault.{RequestFault}
-use Rattle.lx_tool.specs.declared.failure.RequestFault.TheVariants.{NoKind, EmptyKind, NoFormat, NoFile, NoName, NoScanner, NoTargets, NoWarning, Outputs, Scanner, ScannerAndHeader, NumberTooLarge, FlexLater}
+use Rattle.lx_tool.specs.declared.failure.RequestFault.TheVariants.{NoKind, EmptyKind, NoFormat, NoFile, NoName, StreamWorkers, NoScanner, NoTargets, NoWarning, Outputs, Scanner, ScannerAndHeader, NumberTooLarge, FlexLater}
 
 -- ---- the names of files
 
@@ -105,6 +105,7 @@ pub record IsFormOf (words : PlainFormWords) (table : Table) (names : List (List
 abbrev pub IsWordsFault : PlainOrder → RequestFault → Type 0
 IsWordsFault order (NoFormat word) = (order.form.format ≡ Some word.now) × (word.now ≢ codes "json") × (word.now ≢ codes "text")
 IsWordsFault order NoFile = (order.files ≡ []) × (order.list ≡ None)
+IsWordsFault order StreamWorkers = (order.stream ≡ true) × (0 < order.workers)
 IsWordsFault order (NoKind word) = ⊥
 IsWordsFault order EmptyKind = ⊥
 IsWordsFault order (NoName line list) = ⊥
@@ -120,6 +121,7 @@ IsWordsFault order FlexLater = ⊥
 -- the fault for which a listing's files or its form are rejected, given its tables
 abbrev pub IsListingFault : {S : Type 0} → (S → List ℕ → PlainInput → S → Type 0) → PlainOrder → Table → S → RequestFault → Type 0
 IsListingFault gives order table before (NoFormat word) = ⊥
+IsListingFault gives order table before StreamWorkers = ⊥
 IsListingFault gives order table before NoFile = FilesHave gives order before (λ names. names ≡ [])
 IsListingFault gives order table before (NoKind word) = IsSomeAnd order.form.only (λ text. IsUnknown table text word.now)
 IsListingFault gives order table before EmptyKind = IsSomeAnd order.form.only IsNoChoice
@@ -159,6 +161,7 @@ IsListingRefused gives order table before Memory = ⊤
 abbrev pub IsFormatFault : PlainFormWords → RequestFault → Type 0
 IsFormatFault words (NoFormat word) = (words.format ≡ Some word.now) × (word.now ≢ codes "json") × (word.now ≢ codes "text")
 IsFormatFault words NoFile = ⊥
+IsFormatFault words StreamWorkers = ⊥
 IsFormatFault words (NoKind word) = ⊥
 IsFormatFault words EmptyKind = ⊥
 IsFormatFault words (NoName line list) = ⊥

@@ -1,11 +1,14 @@
 -- Files that are listed while they are read.
-use Rattle.std.specs.Prelude.{◌≡◌, ◌<◌, ℕ, Bool, List, ◌∷◌, ◌++◌, All, length}
+use Rattle.std.specs.Prelude.{◌≡◌, ◌<◌, ℕ, Bool, true, List, ◌∷◌, ◌++◌, Option, All, length}
 use Rattle.std.specs.Borrow.{Bor}
 use Rattle.lx_tables.specs.Model.{Table}
 use Rattle.lx_piece.specs.Plans.{PlainInput, Planned, input_of}
 use Rattle.lx_listing.specs.Gathered.{Gathered, Gathers}
 use Rattle.lx_listing.specs.Lines.{Style, file_lines_by}
 use Rattle.lx_listing.specs.Listings.{listing_by, listing_to_by}
+use Rattle.lx_cli.specs.CommandLine.{PlainOrder}
+use Rattle.lx_tool.specs.Naming.{AreFileNames, AreJudged}
+use Rattle.lx_tool.specs.Planning.{ListsAsked}
 use Rattle.lx_tool.specs.Sources.{AreGiven}
 use Rattle.lx_tool.specs.declared.failure.CommandFault.{CommandFault}
 use Rattle.lx_tool.specs.declared.failure.CommandFault.TheVariants.{NotRead}
@@ -23,6 +26,15 @@ pub record StopsAt {S : Type 0} (gives : S → List ℕ → PlainInput → S →
 -- the same of a listing that fails
 abbrev pub HasStoppedFor : {S : Type 0} → (S → List ℕ → PlainInput → S → Type 0) → (List PlainInput → Type 0) → List (List ℕ) → S → CommandFault → Type 0
 HasStoppedFor gives Lists names before failure = (name : Bor (List ℕ)) × (failure ≡ NotRead name) × StopsAt gives Lists names before name.now
+
+-- With `--stream`, the files before one that can't be opened were listed, in the form of the arguments, by these tables.
+pub record HasStopped {S : Type 0} (gives : S → List ℕ → PlainInput → S → Type 0) (order : PlainOrder) (table : Table) (before : S) (old new : Option (List ℕ)) (failure : CommandFault) : Type 0 where
+  pub asked : order.stream ≡ true
+  pub names : List (List ℕ)
+  pub between : S
+  pub named : AreFileNames gives order before between names
+  pub judged : AreJudged order names
+  pub stopped : HasStoppedFor gives (λ inputs. ListsAsked order.form table names inputs old new) names between failure
 
 -- ---- within a listing
 

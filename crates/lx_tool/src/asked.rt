@@ -1,15 +1,18 @@
 //! Listings that the command line asks for.
 
-ghost use Rattle.std.specs.Prelude.{◌≡◌, ◌<◌, ◌≤◌, IfOk, IfErr, None, OnOk, Some, if◌then◌else◌, length, map, nat_lt, option_map, vec_len};
+ghost use Rattle.std.specs.Prelude.{◌≡◌, ◌<◌, ◌≤◌, ◌⊎◌, IfOk, IfErr, None, OnOk, Some, true, if◌then◌else◌, length, map, nat_lt, option_map, vec_len};
 ghost use Rattle.std.specs.Io.KnownBytes.{Keeps};
 ghost use Rattle.lx_piece.specs.Plans.{max_files};
 ghost use Rattle.lx_forms.specs.Views.{form_view};
 ghost use Rattle.lx_cli.specs.CommandLine.{plain_form, plain_list, plain_order};
 ghost use Rattle.lx_tool.specs.Commands.{AreListedAs, AreWordsRefused};
+ghost use Rattle.lx_tool.specs.Given.{IsUnread, ListsGiven};
 ghost use Rattle.lx_tool.specs.Names.{name_bytes};
 ghost use Rattle.lx_tool.specs.Naming.{AreFileNames, AreJudged, AreListNames, AreNamesRefused, AreNamesUnread, IsFormatFault, IsKnownFormat, IsListingRefused, IsListRefused, IsOnly, IsOnlyRefused, format_by, input_count, input_uses, inputs_among, list_input};
+ghost use Rattle.lx_tool.specs.Planning.{ListsIn};
 ghost use Rattle.lx_tool.specs.Sources.{texts_of};
 ghost use Rattle.lx_tool.specs.Statuses.{HidesNoMemory, status_of};
+ghost use Rattle.lx_tool.specs.Streaming.{HasStopped, HasStoppedFor};
 
 use crate::failure::{CommandFault, RequestFault};
 use crate::given::{read_given, read_name_list};
@@ -17,8 +20,9 @@ use crate::names::bytes_of_names;
 use crate::planning::list_files_in;
 use crate::session::Session;
 use crate::source::{STANDARD_INPUT, Sources};
+use crate::streaming::stream_files_in;
 use crate::suggesting::note_kinds;
-use lx_cli::{FormWords, ListRequest, ListWords};
+use lx_cli::{ALONE, FormWords, ListRequest, ListWords};
 use lx_forms::{ChoiceFault, Form, Format, NameListFault, Selection, choose, push_names};
 use lx_piece::MAX_FILES;
 use lx_tables::Tables;
@@ -80,7 +84,7 @@ fn judge_format<'a>(words: &FormWords<'a>) -> Result<(), RequestFault<'a>>
     }
 }
 
-/// Rejects arguments that ask for too many files, for none, for standard input twice, or for an unknown format.
+/// Rejects arguments that ask for too many files, for none, for standard input twice, for streams on several threads, or for an unknown format.
 pub(crate) fn judge_words<'a>(order: &ListRequest<'a>) -> Result<(), CommandFault<'a>>
     ensures ok { OnOk result (length order.now.files.items ≤ max_files) }
     ensures format { OnOk result (IsKnownFormat (plain_order order.now).form.format) }
@@ -94,6 +98,9 @@ pub(crate) fn judge_words<'a>(order: &ListRequest<'a>) -> Result<(), CommandFaul
     }
     if is_input_twice(order, &order.files) {
         return Err(CommandFault::InputTwice);
+    }
+    if order.stream && order.workers > ALONE {
+        return Err(CommandFault::Refused(RequestFault::StreamWorkers));
     }
     match judge_format(&order.form) {
         Ok(()) => Ok(()),
@@ -235,8 +242,82 @@ fn form_of<'f>(words: &FormWords<'_>, names: &'f [Vec<u8>], only: Option<Selecti
     }
 }
 
+// Lists the files with these names by the tables, in a form. Reads all of them before it writes the first line. Returns the names of those that were
+// cut short.
+fn list_read<'a, R: Threads + Wait + Sync, S: Sources, O: Write>(
+    session: &Session<'_, R>,
+    tables: Tables,
+    order: &ListRequest<'a>,
+    names: &[&'a str],
+    form: &Form<'_>,
+    sources: &mut S,
+    out: &mut O,
+) -> Result<Vec<&'a str>, CommandFault<'a>>
+    requires some { 0 < length names.now }
+    requires few { length names.now ≤ max_files }
+    ensures ok { IfOk result (λ cut.
+        ListsGiven S.gives (ListsIn (form_view form.now) tables) (texts_of names.now)
+        sources.old sources.new (O.contents out.old) (O.contents out.new)
+        (texts_of cut.items)) }
+    ensures err { IfErr result (λ failure. status_of failure < 4
+        → IsUnread (texts_of names.now) failure
+        × Keeps (O.contents out.old) (O.contents out.new)) }
+{
+    let given = read_given(session.alloc, sources, names)?;
+    list_files_in(
+        session.rt,
+        session.alloc,
+        tables,
+        given.files,
+        order.per_piece,
+        order.workers,
+        form,
+        session.writes,
+        out,
+    )?;
+    Ok(given.cut)
+}
+
+// Lists them while they are read, with `--stream`, or once all are read.
+fn list_or_stream<'a, R: Threads + Wait + Sync, S: Sources, O: Write>(
+    session: &Session<'_, R>,
+    tables: Tables,
+    order: &ListRequest<'a>,
+    names: &[&'a str],
+    form: &Form<'_>,
+    sources: &mut S,
+    out: &mut O,
+) -> Result<Vec<&'a str>, CommandFault<'a>>
+    requires some { 0 < length names.now }
+    requires few { length names.now ≤ max_files }
+    ensures ok { IfOk result (λ cut.
+        ListsGiven S.gives (ListsIn (form_view form.now) tables) (texts_of names.now)
+        sources.old sources.new (O.contents out.old) (O.contents out.new)
+        (texts_of cut.items)) }
+    ensures err { IfErr result (λ failure. status_of failure < 4
+        → (IsUnread (texts_of names.now) failure
+        × Keeps (O.contents out.old) (O.contents out.new))
+        ⊎ ((order.now.stream ≡ true)
+        × HasStoppedFor S.gives (λ inputs. ListsIn (form_view form.now) tables inputs
+        (O.contents out.old) (O.contents out.new)) (texts_of names.now) sources.old failure)) }
+{
+    if order.stream {
+        stream_files_in(
+            session.alloc,
+            tables,
+            names,
+            form,
+            sources,
+            session.writes,
+            out,
+        )
+    } else {
+        list_read(session, tables, order, names, form, sources, out)
+    }
+}
+
 /// Lists the files that the arguments and the list of files name, by the tables, in the form that the arguments ask for. Reads all files before it
-/// writes the first line. Keeps the text of the list of files in `text`. Returns the names of the files that were cut short.
+/// writes the first line, except with `--stream`. Keeps the text of the list of files in `text`. Returns the names of the files that were cut short.
 pub(crate) fn list_asked<'a, R: Threads + Wait + Sync, S: Sources, O: Write>(
     session: &Session<'_, R>,
     tables: Tables,
@@ -253,26 +334,16 @@ pub(crate) fn list_asked<'a, R: Threads + Wait + Sync, S: Sources, O: Write>(
         (O.contents out.old) (O.contents out.new) (texts_of cut.items)) }
     ensures err { IfErr result (λ failure.
         status_of failure < 4
-        → IsListingRefused S.gives (plain_order order.now) tables sources.old failure
-        × HidesNoMemory failure × Keeps (O.contents out.old) (O.contents out.new)) }
+        → (IsListingRefused S.gives (plain_order order.now) tables sources.old failure
+        × HidesNoMemory failure × Keeps (O.contents out.old) (O.contents out.new))
+        ⊎ HasStopped S.gives (plain_order order.now) tables sources.old
+        (O.contents out.old) (O.contents out.new) failure) }
 {
     let alloc = session.alloc;
     let only = selection_of(alloc, &tables, order.form.only, notes)?;
     let names = names_of(alloc, order, sources, text)?;
     judge_names(order, &names)?;
-    let given = read_given(alloc, sources, &names)?;
     let shown = names_asked(alloc, &order.form, &names)?;
     let form = form_of(&order.form, &shown, only);
-    list_files_in(
-        session.rt,
-        alloc,
-        tables,
-        given.files,
-        order.per_piece,
-        order.workers,
-        &form,
-        session.writes,
-        out,
-    )?;
-    Ok(given.cut)
+    list_or_stream(session, tables, order, &names, &form, sources, out)
 }

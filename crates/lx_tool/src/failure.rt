@@ -55,6 +55,9 @@ pub enum RequestFault<'a> {
     /// This line of the list of files, counted from 1, is empty or isn't UTF-8.
     #[error("line {line} of {list} is no name")]
     NoName { line: usize, list: &'a str },
+    /// Both `--stream` and `-j` are given.
+    #[error("--stream works on one thread; leave out -j")]
+    StreamWorkers,
     /// `-o` is given, and this program can't make files.
     #[error("-o isn't served here")]
     NoTargets,

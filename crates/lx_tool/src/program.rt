@@ -3,7 +3,7 @@
 ghost use Rattle.std.specs.Prelude.{◌≡◌, ◌<◌, ◌≤◌, [], ◌∷◌, false, true, Some, None, Ok, Err, IfOk, IfErr, OnOk, IfSome, IsOk, length};
 ghost use Rattle.std.specs.Io.KnownBytes.{Appends, Keeps};
 ghost use Rattle.lx_cli.specs.CommandLine.{asked_as, asked_by, plain_order, plain_print, run as run-asked, scan as scan-asked, gen as gen-asked, up as up-asked, words_of};
-ghost use Rattle.lx_tool.specs.Commands.{HasDone, HasEnded, HasFailed, HasObeyed, HasPlaced, stored_specification, stored_text};
+ghost use Rattle.lx_tool.specs.Commands.{HasDone, HasEnded, HasFailed, HasFailedOrStopped, HasObeyed, HasPlaced, stored_specification, stored_text};
 ghost use Rattle.lx_tool.specs.Helping.{AskForHelp};
 ghost use Rattle.lx_tool.specs.Planning.{ListsByRules};
 ghost use Rattle.lx_tool.specs.Scanners.{IsDone, IsReportWritten, asks_flex_check, is_for_flex, scanner_asked};
@@ -80,7 +80,7 @@ pub fn run<R: Threads + Wait + Sync, S: Sources, O: Write, E: Write>(
     ensures told { result ≡ 0 → asked_by (words_of words.now) ≡ None
         → AskForHelp (words_of words.now) }
     // All was listed and a file was cut short; or the arguments, the specification, the tables or a file were rejected. Then nothing was written but
-    // the report of `check`.
+    // the report of `check`, or with `--stream` the listing of the files before that one.
     ensures ended { 0 < result → result < 4 →
         HasEnded S.gives (asked_by (words_of words.now)) sources.old sources.new (O.contents out.old) (O.contents out.new) result }
 {
@@ -139,7 +139,7 @@ pub fn run_with<R: Threads + Wait + Sync, S: Sources, T: Targets, O: Write + Out
         → HasPlaced S.gives T.places T.same sources.old targets.old targets.new
         (asked_by (words_of words.now)) }
     // All was listed and a file was cut short; or the arguments, the specification, the tables or a file were rejected. Then nothing was written but
-    // the report of `check`.
+    // the report of `check`, or with `--stream` the listing of the files before that one.
     ensures ended { 0 < result → result < 4 → is_for_flex (words_of words.now) ≡ false →
         HasEnded S.gives (asked_by (words_of words.now)) sources.old sources.new (O.contents out.old) (O.contents out.new) result }
 {
@@ -175,7 +175,7 @@ fn run_command<R: Threads + Wait + Sync, S: Sources, T: Targets, O: Write + Outp
         → HasPlaced S.gives T.places T.same sources.old targets.old targets.new
         (asked_by (words_of words.now)) }
     // All was listed and a file was cut short; or the arguments, the specification, the tables or a file were rejected. Then nothing was written but
-    // the report of `check`.
+    // the report of `check`, or with `--stream` the listing of the files before that one.
     ensures ended { 0 < result → result < 4 →
         HasEnded S.gives (asked_by (words_of words.now)) sources.old sources.new (O.contents out.old) (O.contents out.new) result }
 {
@@ -326,8 +326,8 @@ fn execute<'a, R: Threads + Wait + Sync, S: Sources, T: Targets, O: Write>(
     ensures placed { IfOk result (λ _.
         HasPlaced S.gives T.places T.same sources.old targets.old targets.new
         (asked_by (words_of words.now))) }
-    ensures err { IfErr result (HasFailed S.gives (asked_by (words_of words.now)) sources.old
-        (O.contents out.old) (O.contents out.new)) }
+    ensures err { IfErr result (HasFailedOrStopped S.gives (asked_by (words_of words.now))
+        sources.old (O.contents out.old) (O.contents out.new)) }
 {
     match read_words(session.alloc, words) {
         Ok(order) => carry_out(session, order, sources, targets, list, notes, out),
@@ -407,7 +407,7 @@ fn carry_out<'a, R: Threads + Wait + Sync, S: Sources, T: Targets, O: Write>(
     ensures placed { IfOk result (λ _.
         HasPlaced S.gives T.places T.same sources.old targets.old targets.new
         (asked_as order.entry)) }
-    ensures err { IfErr result (HasFailed S.gives (asked_as order.entry) sources.old
+    ensures err { IfErr result (HasFailedOrStopped S.gives (asked_as order.entry) sources.old
         (O.contents out.old) (O.contents out.new)) }
 {
     let alloc = session.alloc;
@@ -489,8 +489,9 @@ fn list_by_rules_of<'a, R: Threads + Wait + Sync, S: Sources, O: Write>(
     ensures ok { IfOk result (λ cut.
         HasDone S.gives sources.old sources.new (O.contents out.old) (O.contents out.new)
         (texts_of cut.items) (run-asked (plain_order order.now))) }
-    ensures err { IfErr result (HasFailed S.gives (Some (run-asked (plain_order order.now)))
-        sources.old (O.contents out.old) (O.contents out.new)) }
+    ensures err { IfErr result (HasFailedOrStopped S.gives
+        (Some (run-asked (plain_order order.now))) sources.old (O.contents out.old)
+        (O.contents out.new)) }
 {
     items_are_by_rules();
     judge_words(order)?;
@@ -511,8 +512,9 @@ fn list_by_tables_of<'a, R: Threads + Wait + Sync, S: Sources, O: Write>(
     ensures ok { IfOk result (λ cut.
         HasDone S.gives sources.old sources.new (O.contents out.old) (O.contents out.new)
         (texts_of cut.items) (scan-asked (plain_order order.now))) }
-    ensures err { IfErr result (HasFailed S.gives (Some (scan-asked (plain_order order.now)))
-        sources.old (O.contents out.old) (O.contents out.new)) }
+    ensures err { IfErr result (HasFailedOrStopped S.gives
+        (Some (scan-asked (plain_order order.now))) sources.old (O.contents out.old)
+        (O.contents out.new)) }
 {
     judge_words(order)?;
     let text = read_whole(session.alloc, sources, order.rules)?;
