@@ -145,6 +145,10 @@ BATCHES = [
     for name in ("empty", "cut")
 ]
 FORMS = [["run", *form, "three-rules.l", "a", "lines", "cut"] for form in (["--names"], ["--only=-,43", "--no-text"], ["--format", "json"], ["--only", "none"])]
+STREAMS = [
+    *(["run", "--stream", *form, "three-rules.l", "a", "lines", "cut", "a"] for form in ([], ["--format", "json", "--names"], ["--only=-,43", "--no-text"])),
+    ["scan", "--stream", "-b", "1", "first.tables", "lines", "gone"], ["run", "--stream", "-j", "1", "three-rules.l", "a"],
+]  # fmt: skip
 LISTS = [["run", "--files-from", *words, "three-rules.l", "a"] for words in (["names"], ["names", "-0"], ["a"], ["gone"], ["cut"])]
 OTHERS = [
     ["check", "E10.l"], ["check", "--json", "E11.l"], ["check", "words.l"],
@@ -321,7 +325,7 @@ def commands(folder):
         listings += [[*scan, f"{name}.tables", f"{name}.txt"] for scan in SCANS]
     further = [["up", "first.tables"], ["gen", "-o", "target", "three-rules.l"], *FORMS, ["scan", "-j", "1", "--format", "json", "first.tables", "a", "lines"]]
     refused = [["run", f"{code}.l", "a"] for code in REFUSED]
-    return [*HELP, *listings, *BATCHES, *further, *LISTS, *refused, *OTHERS]
+    return [*HELP, *listings, *BATCHES, *further, *STREAMS, *LISTS, *refused, *OTHERS]
 
 
 def calls(program):
