@@ -36,10 +36,10 @@ _lx() {
             [ "${word#-}" = "$word" ] || words="-o --c --header --prefix --include --direct -h --help"
             ;;
         "scan "*)
-            [ "${word#-}" = "$word" ] || words="-j -b --names --only --no-text --format --first --files-from -0 -h --help"
+            [ "${word#-}" = "$word" ] || words="-j -b --stream --names --only --no-text --format --first --files-from -0 -h --help"
             ;;
         "run "*)
-            [ "${word#-}" = "$word" ] || words="-j -b --names --only --no-text --format --first --files-from -0 -h --help"
+            [ "${word#-}" = "$word" ] || words="-j -b --stream --names --only --no-text --format --first --files-from -0 -h --help"
             ;;
         "check "*)
             [ "${word#-}" = "$word" ] || words="--flex -q -W --most --json -h --help"
