@@ -1,6 +1,6 @@
 //! Escapes of bytes.
 
-ghost use Rattle.std.specs.Prelude.{◌≡◌, ◌+◌, ◌<◌, ◌≤◌, ℕ, List, length, take, drop};
+ghost use Rattle.std.specs.Prelude.{◌≡◌, ◌+◌, ◌<◌, ◌≤◌, ℕ, [], ◌∷◌, List, length, take, drop, true};
 ghost use Rattle.std.specs.List.{flat_map};
 ghost use Rattle.lx_line.specs.Escapes.{ShowsPlain, escaped, hex_digit};
 ghost use Rattle.lx_line.specs.Placed.{Placed};
@@ -19,6 +19,10 @@ pub trait Escape {
         ensures few { result ≤ 16 }
         ensures plain { (n : ℕ) → n ≤ result
             → flat_map shown (take n (drop from src.now)) ≡ take n (drop from src.now) };
+
+    /// Returns true if a byte is shown as it is. May return false for one that is.
+    fn is_plain(byte: u8) -> bool
+        ensures { result ≡ true → shown byte ≡ byte ∷ [] };
 
     /// Places what shows a byte.
     fn place_shown(buf: &mut [u8], at: usize, byte: u8) -> usize
@@ -41,6 +45,7 @@ fn hex_digit(n: u8) -> u8
 }
 
 // Places a byte of a text.
+#[inline(always)]
 fn place_escaped(buf: &mut [u8], at: usize, byte: u8) -> usize
     requires { at + 4 ≤ length buf.old }
     ensures placed { Placed buf.old buf.new at (escaped byte) result }
@@ -84,6 +89,12 @@ impl Escape for TextEscape {
         plain_from(src, from, b' ')
     }
 
+    #[inline(always)]
+    fn is_plain(byte: u8) -> bool {
+        byte != b'\\' && matches!(byte, b' '..=b'~')
+    }
+
+    #[inline(always)]
     fn place_shown(buf: &mut [u8], at: usize, byte: u8) -> usize {
         place_escaped(buf, at, byte)
     }
@@ -97,6 +108,11 @@ impl Escape for NameEscape {
     #[inline(always)]
     fn plain_16(src: &[u8], from: usize) -> usize {
         plain_from(src, from, b'!')
+    }
+
+    #[inline(always)]
+    fn is_plain(byte: u8) -> bool {
+        byte != b' ' && TextEscape::is_plain(byte)
     }
 
     fn place_shown(buf: &mut [u8], at: usize, byte: u8) -> usize {
