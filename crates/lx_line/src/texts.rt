@@ -122,7 +122,8 @@ fn is_plain<E: Escape>(text: &[u8]) -> bool
     are_4_plain::<E>(text) && are_4_plain::<E>(&text[last..])
 }
 
-// Places a text of at most 16 bytes. The longer ones are copied, and 16 bytes are read of the copy.
+// Places a text of at most 16 bytes: fewer than 4 one by one, up to 8 at once if they are shown as they are, and others from a copy with 16 more
+// bytes, which can be read too.
 fn place_short<E: Escape>(buf: &mut [u8], at: usize, text: &[u8]) -> usize
     requires few { length text.now ≤ 16 }
     requires room { at + 6 * length text.now + 16 ≤ length buf.old }

@@ -187,7 +187,7 @@ IsRefusedLater gives before (explain word) failure = ⊥
 IsRefusedLater gives before (show s) failure = ⊥
 IsRefusedLater gives before (imports i) failure = ⊥
 
--- A listing with `--stream` was written up to a file that can't be opened.
+-- A listing with `--stream` was written up to the file that the failure names.
 abbrev pub IsStopped : {S : Type 0} → (S → List ℕ → PlainInput → S → Type 0) → S → Option (List ℕ) → Option (List ℕ) → CommandFault → Asked → Type 0
 IsStopped gives before old new failure stored = ⊥
 IsStopped gives before old new failure (run order) = RulesGiven gives AreTablesOfText order before (λ table between. HasStopped gives order table between old new failure)
@@ -256,7 +256,7 @@ pub record IsRefused {S : Type 0} (gives : S → List ℕ → PlainInput → S �
 abbrev pub HasFailed : {S : Type 0} → (S → List ℕ → PlainInput → S → Type 0) → Option Asked → S → Option (List ℕ) → Option (List ℕ) → CommandFault → Type 0
 HasFailed gives asked before old new failure = status_of failure < 4 → IsRefused gives asked before old new failure
 
--- The same, or its listing stopped at a file.
+-- It was rejected then, or its listing with `--stream` stopped at a file.
 abbrev pub HasFailedOrStopped : {S : Type 0} → (S → List ℕ → PlainInput → S → Type 0) → Option Asked → S → Option (List ℕ) → Option (List ℕ) → CommandFault → Type 0
 HasFailedOrStopped gives asked before old new failure = status_of failure < 4 → IsRefused gives asked before old new failure ⊎ IsSomeAnd asked (IsStopped gives before old new failure)
 

@@ -27,7 +27,7 @@ pub record StopsAt {S : Type 0} (gives : S → List ℕ → PlainInput → S →
 abbrev pub HasStoppedFor : {S : Type 0} → (S → List ℕ → PlainInput → S → Type 0) → (List PlainInput → Type 0) → List (List ℕ) → S → CommandFault → Type 0
 HasStoppedFor gives Lists names before failure = (name : Bor (List ℕ)) × (failure ≡ NotRead name) × StopsAt gives Lists names before name.now
 
--- With `--stream`, the files before one that can't be opened were listed, in the form of the arguments, by these tables.
+-- With `--stream`, the files before the one that the failure names were listed, in the form of the arguments, by these tables.
 pub record HasStopped {S : Type 0} (gives : S → List ℕ → PlainInput → S → Type 0) (order : PlainOrder) (table : Table) (before : S) (old new : Option (List ℕ)) (failure : CommandFault) : Type 0 where
   pub asked : order.stream ≡ true
   pub names : List (List ℕ)
