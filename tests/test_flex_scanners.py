@@ -19,7 +19,7 @@ VARIANTS = [("", []), ("yylineno stack", []), ("array yylineno", []), ("reject",
             ("yymore", []), ("yymore array yylineno", []), ("debug yylineno", []), ("lex-compat", [])]
 FORMS = ["rows", "states"]
 # A line of code for states, and one of rows.
-LINES_OF_FORMS = {"rows": "yy_rows[] = {", "states": "yy_s0:"}
+LINES_OF_FORMS = {"rows": "yy_rows[] = {", "states": "yy__s0:"}
 # Files, their texts and what their scanners print.
 SCANNERS = [
     ("a word", WORDS, b"ab 12 c\n", b"<ab>  <c>\n"),

@@ -7,5 +7,7 @@ pub mod Options
 pub mod Reading
 pub mod Rows
 pub mod Scanner
+pub mod StateCode
+pub mod StateSteps
 pub mod Templates
 pub mod Words

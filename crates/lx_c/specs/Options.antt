@@ -1,6 +1,6 @@
 -- The options of a scanner in C: the prefix of all names, the names of start conditions if they are known, and the file that declares the kinds, if
 -- there is one; and the form: code for each state, or rows by classes of bytes.
-use Rattle.std.specs.Prelude.{ℕ, ◌==◌, ◌&&◌, ◌||◌, not, nat_le, if◌then◌else◌, Bool, true, false, IsTrue, List, [], ◌∷◌, Option, Some, None, length}
+use Rattle.std.specs.Prelude.{ℕ, ◌==◌, ◌&&◌, ◌||◌, not, nat_le, if◌then◌else◌, Bool, true, false, IsTrue, List, [], ◌∷◌, Option, Some, None, codes, length}
 use Rattle.std.specs.List.{list_all}
 use Rattle.lx_rules.specs.Identifiers.{is_between, is_digit, is_identifier}
 use Rattle.lx_c.specs.declared.fault.OptionFault.{OptionFault}
@@ -15,6 +15,10 @@ pub record Options : Type 0 where
 
 abbrev pub options_of : List ℕ → List (List ℕ) → Option (List ℕ) → Bool → Options
 options_of prefix conditions include direct = record { prefix = prefix; conditions = conditions; include = include; direct = direct }
+
+-- those of a scanner of a file for lex or flex, as code for each state
+abbrev pub yy_options : Options
+yy_options = options_of (codes "yy") [] None true
 
 abbrev pub is_small_letter : ℕ → Bool
 is_small_letter c = is_between 97 122 c

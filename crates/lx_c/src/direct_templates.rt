@@ -5,10 +5,6 @@ pub(crate) const DIRECT_FIRST_LINE: &[u8] =
     br#"/* @: a scanner printed by lx gen --c; form direct. */
 "#;
 
-/// The marks: what each four states do on each byte.
-pub(crate) const MARKS: &[u8] = br#"static const unsigned char @__mark[] = {
-"#;
-
 /// The macro that says if a match may be empty, which counts as none.
 pub(crate) const MAY_BE_EMPTY: &[u8] = br#"#define @__EMPTY 1
 "#;
@@ -19,23 +15,28 @@ pub(crate) const NONE_IS_EMPTY: &[u8] = br#"#define @__EMPTY 0
 
 /// The macros that the code of states and rules uses.
 pub(crate) const MACROS: &[u8] =
-    br#"/* Whether a state steps on a byte to itself (1), or to another state (2). */
-#define @__STEPS(state, byte, how) (@__mark[(state) / 4 * 256 + (byte)] & ((how) << (state) % 4 * 2))
+    br#"/* Nonzero if a state steps to itself on a byte, and on the last byte that was read. */
+#define @__MARKED(state, byte) (@__mark[(state) / 8 * 256 + (byte)] & 1 << (state) % 8)
+#define @__IN(state) @__MARKED(state, @_byte)
 
 /* At the end of a part: what a state does where it has no step, unless more of the text may come. */
-#define @__AT_END(rule) { if (s->is_last) goto rule; goto @__more; }
+#define @__AT_END(rule) { if (s->is_last) goto @__a##rule; goto @__more; }
 
-/* The next four bytes of a loop, which ends before the first one for which `stays` doesn't hold of c. */
+/* Reads the next byte, where the text has one, and where it may be at its end. */
+#define @__NEXT @_byte = *p;
+#define @__READ(rule) if (p == end) @__AT_END(rule) @__NEXT
+
+/* The next four bytes of a loop, which ends before the first one for which `stays` doesn't hold. */
 #define @__FOUR(stays) \
-    c = p[0]; if (!(stays)) break; \
-    c = p[1]; if (!(stays)) { p += 1; break; } \
-    c = p[2]; if (!(stays)) { p += 2; break; } \
-    c = p[3]; if (!(stays)) { p += 3; break; } \
+    @_byte = p[0]; if (!(stays)) break; \
+    @_byte = p[1]; if (!(stays)) { p += 1; break; } \
+    @_byte = p[2]; if (!(stays)) { p += 2; break; } \
+    @_byte = p[3]; if (!(stays)) { p += 3; break; } \
     p += 4;
 
 /* The last bytes, of which there are fewer than four. */
 #define @__REST(stays, rule) \
-    while (p != end && (c = *p, stays)) p++; \
+    while (p != end && (@_byte = *p, stays)) p++; \
     if (p == end) @__AT_END(rule) \
     break;
 
@@ -45,7 +46,7 @@ pub(crate) const MACROS: &[u8] =
     while (end - p >= 32) { \
         unsigned char left = 0; \
         int i; \
-        for (i = 0; i < 32; i++) { c = p[i]; left |= !(stays); } \
+        for (i = 0; i < 32; i++) { @_byte = p[i]; left |= !(stays); } \
         if (left) break; \
         p += 32; \
     }
@@ -55,15 +56,15 @@ pub(crate) const MACROS: &[u8] =
 
 /* All steps of a state to itself, by the marks. */
 #define @__LOOP(state, rule) \
-    @__LINES(newline |= @__STEPS(state, 10, 1);) \
+    @__LINES(newline |= @__MARKED(state, '\n');) \
     for (;;) { \
-        if (p >= by_one) { @__REST(@__STEPS(state, c, 1), rule) } \
-        @__FOUR(@__STEPS(state, c, 1)) \
+        if (p >= by_one) { @__REST(@__IN(state), rule) } \
+        @__FOUR(@__IN(state)) \
     }
 
-/* The same by comparisons of c: four bytes, 64 more, and behind these blocks. */
+/* The same by comparisons: four bytes, 64 more, and after these blocks. */
 #define @__RANGES(state, stays, rule) \
-    @__LINES(newline |= @__STEPS(state, 10, 1);) \
+    @__LINES(newline |= @__MARKED(state, '\n');) \
     for (;;) { \
         const unsigned char *stop; \
         if (p < by_one) { @__FOUR(stays) } \
@@ -80,11 +81,14 @@ pub(crate) const MACROS: &[u8] =
         break; \
     }
 
-/* A step. */
-#define @__GO(state) p++; goto state;
+/* A step. Before it the place is kept where a rule matched, if none matches after it, and a newline is noted. */
+#define @__KEEP(number) last = p; rule = number;
+#define @__NEWLINE @__LINES(newline |= @_byte == '\n';)
+#define @__GO(state) p++; goto @__s##state;
 
-/* What is no case is left where there is no step on it; all others lead to one state. */
-#define @__OTHER(state) if (!@__STEPS(state, *p, 2)) break; @__LINES(newline |= *p == 10;)
+/* No step is left. The label of a state is used once more, since compilers warn of one without a use. */
+#define @__STOP(state, rule) goto @__a##rule; goto @__s##state;
+#define @__LAST(state, rule) @__STOP(state, rule)
 
 /* A match of a rule ends here. It has to be longer than what is left away of it. */
 #define @__MATCHED(rule) \
@@ -106,10 +110,10 @@ pub(crate) const BEGIN_MATCH: &[u8] = br#"    (void)@__mark;
         /* The last place from which a step led away where a rule is accepted, and that rule. */
         const unsigned char *last;
         unsigned rule;
-        unsigned char c = 0;
+        unsigned char @_byte = 0;
         @__LINES(int newline;)
         (void)by_one;
-        (void)c;
+        (void)@_byte;
         from = last = p;
         rule = 0;
         @__LINES(newline = 0;)
@@ -137,39 +141,8 @@ pub(crate) const BEGIN_STATES: &[u8] = br#"        }
         goto @__a0;
 "#;
 
-/// The label of a state; its number comes after it.
-pub(crate) const STATE_LABEL: &[u8] = br#"@__s"#;
-
-/// The loop of a state by the marks; its number follows.
-pub(crate) const LOOP: &[u8] = br#"@__LOOP("#;
-
-/// The same by ranges of bytes, which come after the number.
-pub(crate) const RANGES: &[u8] = br#"@__RANGES("#;
-
-/// Between that and the number of the rule plus 1, or 0, that the state accepts.
-pub(crate) const LOOP_RULE: &[u8] = br#", @__a"#;
-
-/// A state that doesn't step to itself; the number of its rule plus 1, or 0, comes after it.
-pub(crate) const AT_END: &[u8] = br#"if (p == end) @__AT_END(@__a"#;
-
-/// The step to a state that steps to itself on the same bytes, before all others; that state's number
-/// comes after it.
-pub(crate) const FIRST: &[u8] = br#"if (@__STEPS("#;
-
-/// The code before a step that may be one on a newline.
-pub(crate) const NEWLINE: &[u8] = br#"@__LINES(newline = 1;) "#;
-
-/// A step; the number of its target comes after it.
-pub(crate) const GO: &[u8] = br#"@__GO(@__s"#;
-
-/// The steps to the state to which most lead; the number of the state that they leave comes after it.
-pub(crate) const OTHER: &[u8] = br#"default: @__OTHER("#;
-
-/// The code for a missing step; the number of the state's rule plus 1, or 0, follows.
-pub(crate) const GOTO_RULE: &[u8] = br#"goto @__a"#;
-
 /// The code for a last state that accepts no rule.
-pub(crate) const BACK: &[u8] = br#"@__a0:
+pub(crate) const BACK: &[u8] = br#"    @__a0:
         p = last;
         switch (rule) {
 "#;
@@ -183,13 +156,13 @@ pub(crate) const NO_RULE: &[u8] = br#"        default: @__MATCHED(0)
 "#;
 
 /// The label of a rule; its number plus 1 comes after it.
-pub(crate) const RULE_LABEL: &[u8] = br#"@__a"#;
+pub(crate) const RULE_LABEL: &[u8] = b"    @__a";
 
 /// The code for a match of a rule; its number plus 1 follows.
-pub(crate) const MATCHED: &[u8] = br#"@__MATCHED("#;
+pub(crate) const MATCHED: &[u8] = b"        @__MATCHED(";
 
 /// The code after a match that is skipped. All that the next match needs is known here, so it begins by a `switch` of its own.
-pub(crate) const SKIPPED: &[u8] = br#"@__skip:
+pub(crate) const SKIPPED: &[u8] = br#"    @__skip:
         @__LINES(if (newline) @__count(s, from, p);)
         from = last = p;
         rule = 0;
@@ -206,24 +179,24 @@ pub(crate) const SKIPPED: &[u8] = br#"@__skip:
 
 /// The code at the end of a match.
 pub(crate) const END_MATCH: &[u8] = br#"        }
-@__more:
+    @__more:
         /* Something may have been skipped. */
         if (from != text + s->at) at_line_begin = @__BEGIN(from[-1] == 10);
         kind = @_MORE;
         p = from;
         goto @__done;
-@__performed:
+    @__performed:
         condition = s->condition;
         if (kind == @_END) goto @__skip;
         goto @__token;
-@__echo:
+    @__echo:
         p = from + 1;
         kind = @_ECHO;
         @__LINES(newline = 1;)
-@__token:
+    @__token:
         @__LINES(if (newline) @__count(s, from, p);)
         at_line_begin = @__BEGIN(p[-1] == 10);
-@__done:;
+    @__done:;
     }
 "#;
 
@@ -236,12 +209,18 @@ pub(crate) const DIRECT_LAST_LINES: &[u8] = br#"
 #undef @__EMPTY
 #undef @__FOUR
 #undef @__GO
+#undef @__IN
+#undef @__KEEP
+#undef @__LAST
 #undef @__LINES
 #undef @__LOOP
+#undef @__MARKED
 #undef @__MATCHED
-#undef @__OTHER
+#undef @__NEWLINE
+#undef @__NEXT
 #undef @__PENDING
 #undef @__RANGES
+#undef @__READ
 #undef @__REST
-#undef @__STEPS
+#undef @__STOP
 "#;

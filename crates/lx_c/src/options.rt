@@ -8,6 +8,7 @@ ghost use Rattle.lx_c.specs.Options as specs;
 
 use crate::fault::OptionFault;
 use lx_rules::identifier::{is_digit, is_identifier};
+use std::alloc::{AllocError, Global};
 use std::marker::Model;
 
 /// The options of a scanner in C: the prefix of its names, the names of the start conditions if
@@ -130,6 +131,20 @@ impl Options {
             conditions,
             include,
             direct: false,
+        })
+    }
+
+    /// Returns the options of a scanner of a file for lex or flex, whose names begin with `yy`. AllocError if an allocation fails.
+    pub fn of_lex(alloc: Global) -> Result<Options, AllocError>
+        ensures { IfOk result (λ o. o ≡ specs.yy_options) }
+    {
+        let mut prefix = Vec::new(alloc);
+        prefix.extend_from_slice(b"yy")?;
+        Ok(Options {
+            prefix,
+            conditions: Vec::new(alloc),
+            include: None,
+            direct: true,
         })
     }
 

@@ -3,5 +3,4 @@ mod CutParts
 mod Parts
 mod Plain
 mod Reversal
-mod StateSteps
 mod Walking

@@ -4,7 +4,6 @@ pub mod Cuts
 pub mod Forms
 pub mod Lists
 pub mod StateCode
-pub mod StateSteps
 pub mod Translation
 pub mod Walking
 pub mod views

@@ -1,13 +1,13 @@
 //! Laws of the printed arrays, as C reads them, and of the parts of matches.
 
-ghost use Rattle.std.specs.Prelude.{◌≡◌, ◌≤◌, ◌↔◌, List, Option, ℕ, length, reverse};
+ghost use Rattle.std.specs.Prelude.{◌≡◌, ◌≤◌, ◌↔◌, true, List, Option, ℕ, length, reverse};
 ghost use Rattle.lx_automaton.specs.Automata.{IsMachine, Machine};
 ghost use Rattle.lx_automaton.specs.Lists.{IsListAutomatonOf};
 ghost use Rattle.lx_ere.specs.Matching.{Matches, no_names};
 ghost use Rattle.lx_ere.specs.Regex.{Regex};
 ghost use Rattle.lx_lex.specs.Cuts.{IsCutSpec, reversed};
 ghost use Rattle.lx_lex.specs.Lists.{FindAllRules, HasSmallPlaces};
-ghost use Rattle.lx_lex.specs.StateSteps.{StepsAlike};
+ghost use Rattle.lx_c.specs.StateSteps.{StepsAlike};
 ghost use Rattle.lx_lex.specs.Translation.{FileRule};
 ghost use Rattle.lx_lex.specs.Walking.{FindParts, FindRules};
 ghost use Rattle.lx_rules.specs.Limits.{max_rules};
@@ -41,8 +41,8 @@ pub fn reversal_matches()
         ↔ Matches no_names tree text }
 {}
 
-/// States a law: the code of each state steps on each byte but 0 as the automaton does, by its loop, its tests and its set in their order; and on byte 0,
+/// States a law: the code of each state steps on each byte but 0 as the automaton does, by its loop and its tests in their order; and on byte 0,
 /// which ends what was read, it doesn't step.
 pub fn code_steps_alike()
-    ensures { (m : Machine) → IsMachine m → StepsAlike m }
+    ensures { (m : Machine) → IsMachine m → StepsAlike true m }
 {}

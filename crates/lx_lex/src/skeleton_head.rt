@@ -11,7 +11,7 @@ pub(crate) const OPENING: &[u8] = br#"%if in-header
 %if states
 /* A scanner in C, made by lx flex. Edit the file for flex, not this one.
 
-   The code from yy_s0 on has a label for each state of an automaton, which names the earliest rule that matches after every text. That is
+   The code from yy__s0 on has a label for each state of an automaton, which names the earliest rule that matches after every text. That is
    proved of the rules as lx read them, and so is that each state's steps are printed here. The C code as a whole is tested, not proved. */
 %else
 /* A scanner in C, made by lx flex. Edit the file for flex, not this one.

@@ -154,7 +154,7 @@ YY_DECL
 {
 %if states
     unsigned int yy_current_state; /* the state where the walk has come to a NUL */
-    unsigned char yy_c;
+    unsigned char yy_byte;
     char *yy_cp;
     /* The match that is looked for, from here to before yy_cp; and the last place where a rule matched before the walk went on, with that rule.
        They are volatile, since compilers take long, and print more code, where they keep them in registers through all states. */

@@ -2,27 +2,58 @@
 
 /// The macros that the code of states and rules uses.
 pub(crate) const STATE_MACROS: &[u8] =
-    br#"/* Goes on while a byte leads back to the same state. Two NULs follow the text, and no set has byte 0, so the end needs no test of its own. */
-#define YY_LOOP(set) \
-    for (;;) { \
-        if (!set[yy_c = (unsigned char)yy_cp[0]]) { break; } \
-        if (!set[yy_c = (unsigned char)yy_cp[1]]) { yy_cp += 1; break; } \
-        if (!set[yy_c = (unsigned char)yy_cp[2]]) { yy_cp += 2; break; } \
-        if (!set[yy_c = (unsigned char)yy_cp[3]]) { yy_cp += 3; break; } \
-        yy_cp += 4; \
+    br#"/* Nonzero if a state steps to itself on a byte, and on the last byte that was read. */
+#define yy__MARKED(state, byte) (yy__mark[(state) / 8 * 256 + (byte)] & 1 << (state) % 8)
+#define yy__IN(state) yy__MARKED(state, yy_byte)
+
+/* Reads the next byte. */
+#define yy__NEXT yy_byte = (unsigned char)*yy_cp;
+#define yy__READ(rule) yy__NEXT
+
+/* The next four bytes of a loop, which ends before the first one for which `stays` doesn't hold. Two NULs follow the text, and no state steps to
+   itself on a NUL, so the end needs no test of its own. */
+#define yy__FOUR(stays) \
+    yy_byte = (unsigned char)yy_cp[0]; if (!(stays)) { break; } \
+    yy_byte = (unsigned char)yy_cp[1]; if (!(stays)) { yy_cp += 1; break; } \
+    yy_byte = (unsigned char)yy_cp[2]; if (!(stays)) { yy_cp += 2; break; } \
+    yy_byte = (unsigned char)yy_cp[3]; if (!(stays)) { yy_cp += 3; break; } \
+    yy_cp += 4;
+
+/* Blocks of bytes of which `stays` holds. Without a jump inside they are vectors to these compilers; to others they would be slow. */
+#if defined __OPTIMIZE__ && !defined __OPTIMIZE_SIZE__ && (defined __SSE2__ || defined __ARM_NEON) && (defined __clang__ || __GNUC__ >= 12)
+#define yy__BLOCKS(stays) { \
+        const char *const yy_end = YY_CURRENT_BUFFER_LVALUE->yy_ch_buf + @gyy_n_chars; \
+        while (yy_end - yy_cp >= 32) { \
+            unsigned char yy_left = 0; \
+            int yy_i; \
+            for (yy_i = 0; yy_i < 32; yy_i++) { yy_byte = (unsigned char)yy_cp[yy_i]; yy_left |= !(stays); } \
+            if (yy_left) break; \
+            yy_cp += 32; \
+        } \
+    }
+#else
+#define yy__BLOCKS(stays)
+#endif
+
+/* All steps of a state to itself, by the marks. */
+#define yy__LOOP(state, rule) for (;;) { yy__FOUR(yy__IN(state)) }
+
+/* The same, and after 64 bytes by blocks. */
+#define yy__RANGES(state, stays, rule) { \
+        const char *const yy_from = yy_cp; \
+        for (;;) { \
+            yy__FOUR(yy__IN(state)) \
+            if (yy_cp - yy_from == 64) yy__BLOCKS(stays) \
+        } \
     }
 
-/* Takes the next byte. */
-#define YY_NEXT yy_c = (unsigned char)*yy_cp;
-
-/* Steps to another state. */
-#define YY_GO(label) ++yy_cp; goto label;
-
-/* Keeps the place, before a step from a state that accepts a rule to one that accepts none. */
-#define YY_KEEP(rule) yy_last = yy_cp; yy_last_rule = rule;
+/* A step. Before it the place is kept where a rule matched, if none matches after it. */
+#define yy__KEEP(rule) yy_last = yy_cp; yy_last_rule = rule;
+#define yy__GO(state) ++yy_cp; goto yy__s##state;
 
 /* No step is left. At byte 0 the text may end. */
-#define YY_STOP(state, label) { if (yy_c == '\0') { yy_current_state = state; goto yy_at_nul; } goto label; }
+#define yy__STOP(state, rule) { if (yy_byte == '\0') { yy_current_state = state; goto yy_at_nul; } goto yy_a##rule; }
+#define yy__LAST(state, rule) goto yy_a##rule;
 
 /* Makes yytext the match. */
 #define YY_TAKE \
@@ -127,6 +158,18 @@ pub(crate) const STATE_BEGIN: &[u8] = br#"    for (;;) {
 %else
         switch (@gyy_start - 1) {
 %end
+        default:
+"#;
+
+/// A label of a case; its number comes after it.
+pub(crate) const CASE: &[u8] = b"        case ";
+
+/// The jump of a case to a state, whose number comes after it.
+pub(crate) const GOTO_STATE: &[u8] = b": goto yy__s";
+
+/// The way back into a state, after more text was read.
+pub(crate) const RESUME: &[u8] = br#"    yy_resume:
+        switch (yy_current_state) {
         default:
 "#;
 

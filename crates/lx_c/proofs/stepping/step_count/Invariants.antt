@@ -1,6 +1,6 @@
 use Rattle.std.proofs.Common.{◌≡◌, ◌≤◌}
 use Rattle.lx_automaton.specs.Automata.{class_target}
-use Rattle.lx_c.specs.DirectCode.{count_below, leads}
+use Rattle.lx_c.specs.StateCode.{count_below, leads}
 use Rattle.lx_c.proofs.stepping.step_count.Given as goal
 
 abbrev pub invariant-loop-class : goal.invariant-loop-class

@@ -1,6 +1,0 @@
-use Rattle.std.proofs.Common.{arith}
-use Rattle.lx_c.proofs.Texts.{text_end}
-use Rattle.lx_c.proofs.direct.push_cases.Goals as goal
-
-pub returns : goal.returns
-returns c = text_end _ _ _ 256 _ c.loop-byte.invariant (omega arith)

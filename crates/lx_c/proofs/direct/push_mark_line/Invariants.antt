@@ -1,7 +1,0 @@
-use Rattle.lx_c.proofs.Texts.{HasTexts}
-use Rattle.lx_c.specs.DirectCode.{mark_byte}
-use Rattle.lx_c.specs.Rows.{entry_text}
-use Rattle.lx_c.proofs.direct.push_mark_line.Given as goal
-
-abbrev pub invariant-loop-byte : goal.invariant-loop-byte
-invariant-loop-byte l = HasTexts (λ b. entry_text (mark_byte l.tables.machine l.group b)) l.fn.text.items l.text.items l.byte

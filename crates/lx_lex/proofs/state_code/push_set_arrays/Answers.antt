@@ -1,6 +1,0 @@
-use Rattle.std.proofs.Common.{arith}
-use Rattle.lx_c.proofs.Texts.{text_end}
-use Rattle.lx_lex.proofs.state_code.push_set_arrays.Goals as goal
-
-pub returns : goal.returns
-returns c = text_end _ _ _ _ _ c.loop-state.invariant (omega arith)
