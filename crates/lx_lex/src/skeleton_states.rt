@@ -38,13 +38,11 @@ pub(crate) const STATE_MACROS: &[u8] =
 /* All steps of a state to itself, by the marks. */
 #define yy__LOOP(state, rule) for (;;) { yy__FOUR(yy__IN(state)) }
 
-/* The same, and after 64 bytes by blocks. */
-#define yy__RANGES(state, stays, rule) { \
-        const char *const yy_from = yy_cp; \
-        for (;;) { \
-            yy__FOUR(yy__IN(state)) \
-            if (yy_cp - yy_from == 64) yy__BLOCKS(stays) \
-        } \
+/* The same, and by blocks where the address is a multiple of 256, since most tokens are short. */
+#define yy__RANGES(state, stays, rule) \
+    for (;;) { \
+        yy__FOUR(yy__IN(state)) \
+        if (((size_t)yy_cp & 252) == 0) yy__BLOCKS(stays) \
     }
 
 /* A step. Before it the place is kept where a rule matched, if none matches after it. */

@@ -70,15 +70,24 @@ fn push_nul_array(text: &mut Vec<u8>, tables: &Tables) -> PushResult
     push(text, b"0};\n")
 }
 
+// Appends the arrays of code for states.
+fn push_all_arrays(text: &mut Vec<u8>, options: &Options, tables: &Tables) -> PushResult
+    requires { options.now ≡ yy_options }
+    ensures { OnOk result
+        (text.new.items ≡ text.old.items ++ states.state_arrays_text tables.now) }
+{
+    push_accept_array(text, tables)?;
+    push_nul_array(text, tables)?;
+    push_marks(text, CodedStates::new(options, tables, true))
+}
+
 /// Returns the arrays of code for states: the rule of each state, its step on a NUL, and the marks of bytes of loops.
 pub(crate) fn state_arrays_of(alloc: Global, tables: &Tables) -> Result<Vec<u8>, AllocError>
     ensures { IfOk result (λ text. text.items ≡ states.state_arrays_text tables.now) }
 {
-    let mut text = Vec::new(alloc);
-    push_accept_array(&mut text, tables)?;
-    push_nul_array(&mut text, tables)?;
     let options = Options::of_lex(alloc)?;
-    push_marks(&mut text, CodedStates::new(&options, tables, true))?;
+    let mut text = Vec::new(alloc);
+    push_all_arrays(&mut text, &options, tables)?;
     Ok(text)
 }
 
