@@ -42,16 +42,16 @@ pub(crate) const STATE_MACROS: &[u8] =
 #define yy__RANGES(state, stays, rule) \
     for (;;) { \
         yy__FOUR(yy__IN(state)) \
-        if (((size_t)yy_cp & 252) == 0) yy__BLOCKS(stays) \
+        if (((size_t)yy_cp & 252) == 0) { yy__BLOCKS(stays) } \
     }
 
 /* A step. Before it the place is kept where a rule matched, if none matches after it. */
 #define yy__KEEP(rule) yy_last = yy_cp; yy_last_rule = rule;
 #define yy__GO(state) ++yy_cp; goto yy__s##state;
 
-/* No step is left. At byte 0 the text may end. */
+/* No step is left. At byte 0 the text may end. A state without steps that accepts a rule doesn't look at the next byte. */
 #define yy__STOP(state, rule) { if (yy_byte == '\0') { yy_current_state = state; goto yy_at_nul; } goto yy_a##rule; }
-#define yy__LAST(state, rule) goto yy_a##rule;
+#define yy__LAST(state, rule) { if (rule == 0) { yy__NEXT yy__STOP(state, rule) } goto yy_a##rule; }
 
 /* Makes yytext the match. */
 #define YY_TAKE \
@@ -136,7 +136,9 @@ pub(crate) const STATE_MACROS: &[u8] =
 "#;
 
 /// The beginning of a match, up to the starts of the conditions.
-pub(crate) const STATE_BEGIN: &[u8] = br#"    for (;;) {
+pub(crate) const STATE_BEGIN: &[u8] =
+    br#"    (void)yy__mark; /* in some scanners no state steps to itself */
+    for (;;) {
 %if yymore
 %if !array
         @gyy_more_len = 0;
