@@ -1,7 +1,6 @@
 -- A run over the joined table in the bytes that are held, whatever bytes follow.
-use Rattle.std.proofs.Common.{◌≡◌, ℕ, zero, suc, ◌+◌, ◌-◌, ◌<◌, ◌≤◌, Bool, nat_eq, List, [], ◌∷◌, ◌++◌, Option, Some, None, length, take, drop, map, refl, sym, ap, ap₂, subst, ◌∙◌, arith}
+use Rattle.std.proofs.Common.{◌≡◌, ℕ, ◌+◌, ◌-◌, ◌<◌, ◌≤◌, Bool, nat_eq, List, [], ◌∷◌, ◌++◌, Option, Some, None, length, take, drop, map, refl, sym, ap, ap₂, subst, ◌∙◌, arith}
 use Rattle.std.specs.Prelude.{All, slice_index}
-use Rattle.std.specs.Option.{option_map}
 use Rattle.std.proofs.lemmas.List.{get_or_append_left, length-append, length-drop, length-take, map-append, take_rest}
 use Rattle.std.proofs.lemmas.List.Elements.{All-append, All-cons, All-nil, All-weaker}
 use Rattle.lx_rules.specs.declared.rule.Step.{Step}
@@ -12,12 +11,12 @@ use Rattle.lx_scan.specs.declared.ends.End.{End}
 use Rattle.lx_scan.specs.declared.item.Item.{Item}
 use Rattle.lx_scan.specs.declared.place.Place.{Place}
 use Rattle.lx_scan.specs.Cursors.{steps_left}
-use Rattle.lx_scan.specs.Ends.{AreEnds, LeadTo, end_of, items_of_ends, line_of, place_behind, steps_of_code}
+use Rattle.lx_scan.specs.Ends.{AreEnds, LeadTo, end_of, items_of_ends, line_of, place_behind, shift_end, steps_of_code}
 use Rattle.lx_scan.specs.ItemParts.{len_of, start_of}
-use Rattle.lx_scan.specs.Items.{items_after, items_from, steps_at}
+use Rattle.lx_scan.specs.Items.{items_after, items_from}
 use Rattle.lx_scan.specs.Steps.{items_of_steps}
-use Rattle.lx_scan.specs.Streams.{AreParts, IsAfter, Gives, GivesTo, IsKept, IsWalked, shift_end, stream_of}
-use Rattle.lx_scan.proofs.Runs.{ends_rise}
+use Rattle.lx_scan.specs.Streams.{AreParts, Gives, GivesTo, IsKept, IsWalked, stream_of}
+use Rattle.lx_scan.proofs.Runs.{ends_rise, rises}
 use Rattle.lx_scan.proofs.Shifting.{are_shifted, end_shifted, ends_shifted, from_shifted, line_shifted, shift_item}
 use Rattle.lx_scan.proofs.Streaming.{fed_further, kept_further}
 use Rattle.lx_scan.proofs.Turns.{drop_further}
@@ -32,10 +31,6 @@ steps_between [] line start len to few = All-nil (IsBetween start to)
 steps_between (Echo ∷ steps) line start len to few = All-cons (IsBetween start to) _ _ (record { begin = omega arith; end = few }) (steps_between steps line start len to few)
 steps_between (Begin next ∷ steps) line start len to few = steps_between steps line start len to few
 steps_between (Return kind ∷ steps) line start len to few = All-cons (IsBetween start to) _ _ (record { begin = omega arith; end = few }) (steps_between steps line start len to few)
-
-rises : (table : Table) (start : ℕ) (ends : List End) → AreEnds table start ends → start ≤ end_of start ends
-rises table start [] are = omega arith
-rises table start (e ∷ ends) (is, are) = let here = is.further in let there = rises table e.offset ends are in omega arith
 
 ends_between : (table : Table) (start line : ℕ) (ends : List End) → AreEnds table start ends → All (IsBetween start (end_of start ends)) (items_of_ends table start line ends)
 ends_between table start line [] are = All-nil (IsBetween start start)
@@ -65,6 +60,9 @@ module _ (table : Table) (bytes : List ℕ) (start : ℕ) (c : Cursor) (read sta
 
   offset_zero : from.offset ≡ 0
   offset_zero = ap (λ (p : Place). p.offset) from_is
+
+  lines_few : l ≤ d
+  lines_few = let few = parts.line_few in omega arith
 
   line_one : from.line ≡ 1
   line_one = ap (λ (p : Place). p.line) from_is
@@ -133,7 +131,7 @@ module _ (table : Table) (bytes : List ℕ) (start : ℕ) (c : Cursor) (read sta
 
     pub kept_run : All (IsKept (stream_of table bytes (start + n) new ended)) items
     kept_run =
-        let are = are_shifted table d l from.offset ends (leads []).are_ends in
+        let are = are_shifted table d l lines_few from.offset ends (leads []).are_ends in
         let to : end_of (d + from.offset) (map (shift_end d l) ends) ≡ d + n = end_shifted table d l from.offset ends in
         let long : length (take (start + n) bytes) ≡ start + n = omega (arith, inside, parts.within, length-take (start + n) bytes, length-drop start bytes) in
         All-weaker (IsBetween (d + from.offset) (end_of (d + from.offset) (map (shift_end d l) ends))) (IsKept (stream_of table bytes (start + n) new ended))
@@ -184,7 +182,7 @@ module _ (table : Table) (bytes : List ℕ) (start : ℕ) (c : Cursor) (read sta
 
     pub are_run : AreEnds table d moved
     are_run = subst (λ (es : List End). AreEnds table d es) (sym moved_is)
-        (subst (λ (k : ℕ). AreEnds table k (map (shift_end d l) ends)) from_offset (are_shifted table d l from.offset ends (leads []).are_ends))
+        (subst (λ (k : ℕ). AreEnds table k (map (shift_end d l) ends)) from_offset (are_shifted table d l lines_few from.offset ends (leads []).are_ends))
 
     pub end_run : end_of d moved ≡ d + n
     end_run = ap₂ (λ (k : ℕ) (es : List End). end_of k es) (sym from_offset) moved_is ∙ end_shifted table d l from.offset ends
@@ -214,17 +212,3 @@ pub leads_held : (table : Table) (bytes : List ℕ) (start : ℕ) (from : Place)
     (rest : List ℕ) → LeadTo table (drop start bytes ++ rest) from ends (place_behind (drop start bytes ++ rest) from ends condition)
 leads_held table bytes start from ends condition leads rest =
     subst (λ (held : List ℕ). LeadTo table (held ++ rest) from ends (place_behind (held ++ rest) from ends condition)) (take_rest bytes start) (leads rest)
-
--- no step is left after no match
-pub none_after : (table : Table) (c : Cursor) (place : Place) → IsAfter c place → items_of_steps (steps_left table c) c.line c.found.start c.found.len ≡ []
-none_after table c place a =
-    ap (λ (steps : List Step). items_of_steps steps c.line c.found.start c.found.len)
-    (ap (λ (r : Option ℕ). drop c.done (steps_at table (option_map (λ rule. (rule, c.found.len)) r))) a.rule ∙ all_done c.done a.done)
-  where
-    nothing : (k : ℕ) → ◌≡◌ {A = List Step} (drop k []) []
-    nothing zero = refl
-    nothing (suc k) = refl
-
-    all_done : (done : ℕ) → 1 ≤ done → ◌≡◌ {A = List Step} (drop done (Echo ∷ [])) []
-    all_done zero h = absurd (omega arith)
-    all_done (suc done) h = nothing done

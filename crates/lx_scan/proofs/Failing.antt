@@ -1,15 +1,14 @@
 -- Runs over the rest of a text, and the states from which nothing more is accepted.
-use Rattle.std.proofs.Common.{◌≡◌, ℕ, zero, suc, ◌+◌, ◌-◌, ◌<◌, ◌≤◌, Bool, List, ◌∷◌, Option, Some, None, length, take, drop, refl, sym, ap, subst, ◌∙◌, arith}
-use Rattle.std.specs.Prelude.{MatchOption, slice_index}
+use Rattle.std.proofs.Common.{◌≡◌, ℕ, zero, suc, ◌+◌, ◌-◌, ◌<◌, ◌≤◌, Bool, List, ◌∷◌, Option, Some, None, length, take, drop, refl, sym, ap, ◌∙◌, arith}
+use Rattle.std.specs.Prelude.{slice_index}
 use Rattle.std.specs.Option.{option_or}
-use Rattle.std.proofs.lemmas.List.{drop_more, get_or-drop, length-drop}
+use Rattle.std.proofs.lemmas.List.{drop_more, length-drop}
 use Rattle.std.proofs.Math.Seq.{take-add}
-use Rattle.lx_automaton.specs.Automata.{Machine, accepted_at, accepted_by, answer, answer_from, start_of, state_after, state_count, target_of}
+use Rattle.lx_automaton.specs.Automata.{Machine, accepted_at, accepted_by, answer, answer_from, start_of, state_after, target_of}
 use Rattle.lx_tables.specs.Model.{Table}
 use Rattle.lx_scan.specs.Answers.{furthest, match_after}
 use Rattle.lx_scan.specs.Failing.{IsFailed}
-use Rattle.lx_scan.proofs.Stepping.{HasRead, nothing_read, reads_on, state_after_both}
-use Rattle.lx_scan.proofs.Turns.{drop_further}
+use Rattle.lx_scan.proofs.Stepping.{HasRead, state_after_both}
 
 -- ---- one byte
 --  the answers of a state, with a missing step and with a step
@@ -87,98 +86,3 @@ module _ (table : Table) (condition : ℕ) (begin : Bool) (rest : List ℕ) wher
 
   pub reads_in_vain : (read state : ℕ) (last : Option (ℕ × ℕ)) → HasRead table condition begin rest read state last → IsFailed table.machine (drop read rest) state → last ≡ furthest table condition begin rest (length rest)
   reads_in_vain read state last r f = let within = r.within in silent_further read state last r f (length rest - read) (length rest) (omega arith) (omega arith)
-
-module _ (table : Table) (condition : ℕ) (begin : Bool) (text : List ℕ) (from : ℕ) where
-  -- A run from a place is before byte `at` in a state, with its last accepted match. Since the place at which it was in state `back`, it has accepted
-  -- nothing.
-  pub record Running (at state : ℕ) (last : Option (ℕ × ℕ)) (since back : ℕ) : Type 0 where
-    pub read : ℕ
-    pub at_is : at ≡ from + read
-    pub has_read : HasRead table condition begin (drop from text) read state last
-    pub within : at ≤ length text
-    pub order : since ≤ at
-    pub known : back < state_count table.machine
-    pub silent : IsFailed table.machine (drop at text) state → IsFailed table.machine (drop since text) back
-
-  -- the results of a run
-  pub record HasRun (last : Option (ℕ × ℕ)) (since back end : ℕ) : Type 0 where
-    pub last_is : last ≡ furthest table condition begin (drop from text) (length (drop from text))
-    pub failed : IsFailed table.machine (drop since text) back
-    pub known : back < state_count table.machine
-    pub order : since ≤ end
-    pub within : end ≤ length text
-
-  pub runs_begun : start_of table.machine condition begin < state_count table.machine → from ≤ length text → Running from (start_of table.machine condition begin) None from (start_of table.machine condition begin)
-  runs_begun known within = record {
-    read = 0;
-    at_is = omega arith;
-    has_read = nothing_read table condition begin (drop from text) known;
-    within = within;
-    order = omega arith;
-    known = known;
-    silent = λ f. f;
-  }
-
-  -- nothing more is accepted
-  pub ends_known : (at state : ℕ) (last : Option (ℕ × ℕ)) (since back : ℕ) → Running at state last since back → IsFailed table.machine (drop at text) state → HasRun last since back at
-  ends_known at state last since back r f =
-      let same : drop at text ≡ drop r.read (drop from text) = ap (λ (n : ℕ). drop n text) r.at_is ∙ sym (drop_further text from r.read) in
-      record {
-        last_is = reads_in_vain table condition begin (drop from text) r.read state last r.has_read (subst (λ (xs : List ℕ). IsFailed table.machine xs state) same f);
-        failed = r.silent f;
-        known = r.known;
-        order = r.order;
-        within = r.within;
-      }
-
-  pub ends_stuck : (at state : ℕ) (last : Option (ℕ × ℕ)) (since back : ℕ) → at < length text → target_of table.machine state (slice_index text at) ≡ None → Running at state last since back → HasRun last since back at
-  ends_stuck at state last since back more missing r = ends_known at state last since back r (fails_stuck table.machine text at state more missing)
-
-  pub ends_all : (at state : ℕ) (last : Option (ℕ × ℕ)) (since back : ℕ) → length text ≤ at → Running at state last since back → HasRun last since back at
-  ends_all at state last since back end r = ends_known at state last since back r (fails_end table.machine text at state end)
-
-  -- the tables step to a state
-  module _ (at state next : ℕ) (last new : Option (ℕ × ℕ)) (since back since_new back_new : ℕ) (more : at < length text) (step : target_of table.machine state (slice_index text at) ≡ Some next)
-      (known : next < state_count table.machine) (is_new : new ≡ option_or (match_after table (accepted_by table.machine next) (at + 1 - from)) last) (r : Running at state last since back) where
-    reads_next : HasRead table condition begin (drop from text) (r.read + 1) next new
-    reads_next =
-        let at_is = r.at_is in
-        let one : at + 1 - from ≡ r.read + 1 = omega arith in
-        let byte : slice_index (drop from text) r.read ≡ slice_index text at = get_or-drop from text r.read 0 ∙ ap (λ (n : ℕ). slice_index text n) (sym at_is) in
-        reads_on table condition begin (drop from text) r.read state next last new (omega (arith, at_is, more, length-drop from text))
-        (sym (ap (λ (b : ℕ). target_of table.machine state b) byte ∙ step)) known
-        (is_new ∙ ap (λ (n : ℕ). option_or (match_after table (accepted_by table.machine next) n) last) one) r.has_read
-
-    pub runs_on : MatchOption (accepted_by table.machine next) ((since_new ≡ since) × (back_new ≡ back)) (λ _. (since_new ≡ at + 1) × (back_new ≡ next)) → Running (at + 1) next new since_new back_new
-    runs_on since_is = on (accepted_by table.machine next) refl since_is
-      where
-        on : (a : Option ℕ) → accepted_by table.machine next ≡ a → MatchOption a ((since_new ≡ since) × (back_new ≡ back)) (λ _. (since_new ≡ at + 1) × (back_new ≡ next)) → Running (at + 1) next new since_new back_new
-        on None none same =
-            let order = r.order in
-            let place : since_new ≡ since = same.0 in
-            record {
-              read = r.read + 1;
-              at_is = (let at_is = r.at_is in omega arith);
-              has_read = reads_next;
-              within = omega arith;
-              order = omega arith;
-              known = subst (λ (n : ℕ). n < state_count table.machine) (sym same.1) r.known;
-              silent = λ f.
-                  let before : IsFailed table.machine (drop since text) back = r.silent (fails_back table.machine text at state more next step none f) in
-                  subst (λ (n : ℕ). IsFailed table.machine (drop n text) back_new) (sym same.0) (subst (λ (n : ℕ). IsFailed table.machine (drop since text) n) (sym same.1) before);
-            }
-        on (Some rule) accepted here =
-            let place : since_new ≡ at + 1 = here.0 in
-            record {
-              read = r.read + 1;
-              at_is = (let at_is = r.at_is in omega arith);
-              has_read = reads_next;
-              within = omega arith;
-              order = omega arith;
-              known = subst (λ (n : ℕ). n < state_count table.machine) (sym here.1) known;
-              silent = λ f. subst (λ (n : ℕ). IsFailed table.machine (drop n text) back_new) (sym here.0) (subst (λ (n : ℕ). IsFailed table.machine (drop (at + 1) text) n) (sym here.1) f);
-            }
-
-pub ruleset run_steps = (runs_begun, runs_on, ends_known, ends_stuck, ends_all)
-
-pub ruleset keep_steps = (fails_on)

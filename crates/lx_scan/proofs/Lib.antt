@@ -18,3 +18,4 @@ pub mod Stepping
 pub mod Streaming
 pub mod Turns
 pub mod Walking
+pub mod Whole

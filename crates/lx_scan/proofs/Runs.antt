@@ -12,7 +12,7 @@ use Rattle.lx_tables.specs.declared.joined.Transition.{Transition}
 use Rattle.lx_scan.specs.declared.ends.End.{End}
 use Rattle.lx_scan.specs.declared.item.Item.{Item}
 use Rattle.lx_scan.specs.declared.place.Place.{Place}
-use Rattle.lx_scan.specs.Ends.{AreEnds, IsEnd, IsPlace, LeadTo, Appends, end_of, items_of_ends, line_of, place_behind, rule_of_code, steps_of_code}
+use Rattle.lx_scan.specs.Ends.{AreEnds, IsEnd, IsPlace, LeadTo, end_of, items_of_ends, line_of, place_behind, rule_of_code, steps_of_code}
 use Rattle.lx_scan.specs.Items.{items_after, steps_at}
 use Rattle.lx_scan.specs.Steps.{items_of_steps, newlines}
 use Rattle.lx_scan.proofs.Entries.{Stands, Tells, goes, newlines_more, next_place, stands_begun, stands_stepped, steps_alike, tells}
@@ -83,10 +83,6 @@ more_bytes text rest n few = omega (arith, few, length-append text rest)
 
 pub is_place_more : (table : Table) (text rest : List ℕ) (place : Place) → IsPlace table text place → IsPlace table (text ++ rest) place
 is_place_more table text rest place p = record { within = (let within = p.within in omega (arith, length-append text rest)); known = p.known; line_some = p.line_some; line_few = p.line_few }
-
-pub leads_alone : (table : Table) (text : List ℕ) (from : Place) (ends : List End) (condition : ℕ) → ((rest : List ℕ) → LeadTo table (text ++ rest) from ends (place_behind (text ++ rest) from ends condition)) →
-    LeadTo table text from ends (place_behind text from ends condition)
-leads_alone table text from ends condition leads = subst (λ (t : List ℕ). LeadTo table t from ends (place_behind t from ends condition)) (append-nil text) (leads [])
 
 -- ---- a run
 --  From a place a run found these ends. It has read this number of bytes of the text, and is on this line and in this row.
@@ -200,7 +196,7 @@ module _ (table : Table) (is : IsTable table) (columns : List ℕ) (entries : Li
             row_is = parts.row ∙ ap (λ (f : ℕ × JoinedState). joined_number table f.1 * joined_width table) is_found;
             line_is = ap (λ l. l + (if nat_eq byte 10 then 1 else 0)) line_is ∙ first_line text read next.line byte more is_byte;
             leads = record {
-              are_ends = are_more table from.offset ends e r.leads.are_ends (record { further = subst (λ (n : ℕ). n < read) r.offset_is further; some = positive entry.code some; known = t.known; few = t.few });
+              are_ends = are_more table from.offset ends e r.leads.are_ends (record { further = subst (λ (n : ℕ). n < read) r.offset_is further; line_few = (let few = g.line_few in omega (arith, few, line_is)); some = positive entry.code some; known = t.known; few = t.few });
               is_place = record { within = g.within; known = g.known; line_some = g.line_some; line_few = g.line_few };
               items = r.leads.items
                   ∙ ap (λ (xs : List Item). items_of_ends table from.offset from.line ends ++ xs) (g.items ∙ ap (λ (xs : List Item). xs ++ items_after table text next) items)
@@ -249,6 +245,11 @@ runs_behind table text from ends count read line row condition r room condition_
     parts : (o p c d l k : ℕ) (a b : Bool) → o ≡ p → c ≡ d → a ≡ b → l ≡ k → ◌≡◌ {A = Place} (record { offset = o; condition = c; at_line_begin = a; line = l }) (record { offset = p; condition = d; at_line_begin = b; line = k })
     parts o p c d l k a b e f g h = cc
 
+-- after ends the place isn't before the first
+pub rises : (table : Table) (start : ℕ) (ends : List End) → AreEnds table start ends → start ≤ end_of start ends
+rises table start [] are = omega arith
+rises table start (e ∷ ends) (is, are) = let here = is.further in let there = rises table e.offset ends are in omega arith
+
 -- after some ends the place is further on
 pub ends_rise : (table : Table) (start : ℕ) (ends : List End) → AreEnds table start ends → 0 < length ends → start < end_of start ends
 ends_rise table start [] are some = absurd (omega arith)
@@ -257,30 +258,3 @@ ends_rise table start (e ∷ x ∷ es) (is, are) some =
     let here = is.further in
     let there = ends_rise table e.offset (x ∷ es) are (omega arith) in
     omega arith
-
--- the items of a run are appended
-pub run_appends : (table : Table) (text : List ℕ) (from : Place) (ends : List End) (condition offset line : ℕ) (old new : List Item) → LeadTo table text from ends (place_behind text from ends condition) → 0 < length ends →
-    offset ≡ end_of from.offset ends → line ≡ line_of from.line ends → new ≡ old ++ items_of_ends table from.offset from.line ends →
-    let place : Place = record { offset = offset; condition = condition; at_line_begin = nat_eq (slice_index text (offset - 1)) 10; line = line } in
-    (from.offset < offset) × IsPlace table text place × Appends old new (items_after table text from) (items_after table text place)
-run_appends table text from ends condition offset line old new leads some offset_is line_is new_is =
-    let place : Place = record { offset = offset; condition = condition; at_line_begin = nat_eq (slice_index text (offset - 1)) 10; line = line } in
-    let same : place_behind text from ends condition ≡ place
-    = ap₂ (λ (o l : ℕ). let p : Place = record { offset = o; condition = condition; at_line_begin = nat_eq (slice_index text (o - 1)) 10; line = l } in p) (sym offset_is) (sym line_is) in
-    let further = ends_rise table from.offset ends leads.are_ends some in (
-      omega arith,
-      subst (λ (p : Place). IsPlace table text p) same leads.is_place,
-      record {
-        added = items_of_ends table from.offset from.line ends;
-        new_is = new_is;
-        left_is = subst (λ (p : Place). items_after table text from ≡ items_of_ends table from.offset from.line ends ++ items_after table text p) same leads.items;
-      },
-    )
-
--- and those of the next run are appended to those of the runs before it
-pub appends_both : (a b d x y z : List Item) → Appends a b x y → Appends b d y z → Appends a d x z
-appends_both a b d x y z first second = record {
-  added = first.added ++ second.added;
-  new_is = second.new_is ∙ ap (λ xs. xs ++ second.added) first.new_is ∙ append_assoc a first.added second.added;
-  left_is = first.left_is ∙ ap (λ xs. first.added ++ xs) second.left_is ∙ sym (append_assoc first.added second.added z);
-}

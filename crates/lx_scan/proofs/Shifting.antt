@@ -1,7 +1,7 @@
 -- The items of a part of a text, and those of the text: places and lines are further on by the same numbers.
-use Rattle.std.proofs.Common.{◌≡◌, ℕ, zero, suc, ◌+◌, ◌-◌, ◌<◌, Bool, List, [], ◌∷◌, ◌++◌, Option, length, take, drop, map, refl, sym, ap, ap₂, ◌∙◌, arith}
-use Rattle.std.specs.Prelude.{get_or, nat_eq, set, slice_index}
-use Rattle.std.proofs.lemmas.List.{drop-set-lt, drop_more, get_or-drop, length-set, map-append, take_more, take_more_set}
+use Rattle.std.proofs.Common.{◌≡◌, ℕ, zero, suc, ◌+◌, ◌-◌, ◌≤◌, Bool, List, [], ◌∷◌, ◌++◌, Option, take, map, refl, sym, ap, ap₂, ◌∙◌, arith}
+use Rattle.std.specs.Prelude.{nat_eq, slice_index}
+use Rattle.std.proofs.lemmas.List.{map-append}
 use Rattle.lx_rules.specs.declared.rule.Step.{Step}
 use Rattle.lx_rules.specs.declared.rule.Step.TheVariants.{Echo, Begin, Return}
 use Rattle.lx_tables.specs.Model.{Table}
@@ -9,10 +9,9 @@ use Rattle.lx_scan.specs.declared.ends.End.{End}
 use Rattle.lx_scan.specs.declared.item.Item.{Item}
 use Rattle.lx_scan.specs.declared.item.Item.TheVariants as item
 use Rattle.lx_scan.specs.declared.place.Place.{Place}
-use Rattle.lx_scan.specs.Ends.{AreEnds, end_of, items_of_ends, line_of, steps_of_code}
+use Rattle.lx_scan.specs.Ends.{AreEnds, end_of, items_of_ends, line_of, shift_end, steps_of_code}
 use Rattle.lx_scan.specs.Items.{choice_at, items_at, items_from, len_at, place_after, steps_at}
 use Rattle.lx_scan.specs.Steps.{condition_after, items_of_steps, newlines}
-use Rattle.lx_scan.specs.Streams.{shift_end}
 
 module _ (table : Table) (d l : ℕ) where
   pub shift_item : Item → Item
@@ -56,9 +55,9 @@ module _ (table : Table) (d l : ℕ) where
       (ends_shifted e.offset e.line ends)
       ∙ sym (map-append shift_item (items_of_steps (steps_of_code table e.code) line start (e.offset - start)) (items_of_ends table e.offset e.line ends))
 
-  pub are_shifted : (start : ℕ) (ends : List End) → AreEnds table start ends → AreEnds table (d + start) (map (shift_end d l) ends)
-  are_shifted start [] are = tt
-  are_shifted start (e ∷ ends) (is, are) = (record { further = (let f = is.further in omega arith); some = is.some; known = is.known; few = is.few }, are_shifted e.offset ends are)
+  pub are_shifted : l ≤ d → (start : ℕ) (ends : List End) → AreEnds table start ends → AreEnds table (d + start) (map (shift_end d l) ends)
+  are_shifted below start [] are = tt
+  are_shifted below start (e ∷ ends) (is, are) = (record { further = (let f = is.further in omega arith); line_few = (let few = is.line_few in omega (arith, below)); some = is.some; known = is.known; few = is.few }, are_shifted below e.offset ends are)
 
   pub end_shifted : (start : ℕ) (ends : List End) → end_of (d + start) (map (shift_end d l) ends) ≡ d + end_of start ends
   end_shifted start [] = refl
@@ -67,29 +66,3 @@ module _ (table : Table) (d l : ℕ) where
   pub line_shifted : (line : ℕ) (ends : List End) → line_of (l + line) (map (shift_end d l) ends) ≡ l + line_of line ends
   line_shifted line [] = refl
   line_shifted line (e ∷ ends) = line_shifted e.line ends
-
--- ends that are moved on one after the other
-pub record AreMoved (bytes lines : ℕ) (old new : List End) (at : ℕ) : Type 0 where
-  pub moved : take at new ≡ map (shift_end bytes lines) (take at old)
-  pub rest : drop at new ≡ drop at old
-  pub len : length new ≡ length old
-
-pub moves_on : (bytes lines : ℕ) (old new : List End) (at : ℕ) (d : End) → at < length new → AreMoved bytes lines old new at →
-    AreMoved bytes lines old (set new at (shift_end bytes lines (get_or new at d))) (at + 1)
-moves_on bytes lines old new at d more m =
-    let len = m.len in
-    let same : get_or new at d ≡ get_or old at d = sym (first_of new) ∙ ap (λ (xs : List End). get_or xs 0 d) m.rest ∙ first_of old in
-    record {
-      moved = take_more_set new at (shift_end bytes lines (get_or new at d)) more
-          ∙ ap₂ (λ (xs : List End) (e : End). xs ++ shift_end bytes lines e ∷ []) m.moved same
-          ∙ sym (map-append (shift_end bytes lines) (take at old) (get_or old at d ∷ []))
-          ∙ ap (λ (xs : List End). map (shift_end bytes lines) xs) (sym (take_more old at d (omega arith)));
-      rest = drop-set-lt (at + 1) new at (shift_end bytes lines (get_or new at d)) (omega arith) ∙ sym (one_more new more) ∙ ap (λ (ys : List End). drop 1 ys) m.rest ∙ one_more old (omega arith);
-      len = length-set new at (shift_end bytes lines (get_or new at d)) ∙ len;
-    }
-  where
-    first_of : (xs : List End) → get_or (drop at xs) 0 d ≡ get_or xs at d
-    first_of xs = get_or-drop at xs 0 d ∙ (let same : at + 0 ≡ at = omega arith in ap (λ (n : ℕ). get_or xs n d) same)
-
-    one_more : (xs : List End) → at < length xs → drop 1 (drop at xs) ≡ drop (at + 1) xs
-    one_more xs h = ap (λ (ys : List End). drop 1 ys) (drop_more xs at d h)

@@ -1,7 +1,7 @@
 -- A scanner that is fed a text in blocks, by its parts.
-use Rattle.std.proofs.Common.{◌≡◌, ℕ, suc, ◌+◌, ◌-◌, ◌<◌, ◌≤◌, inl, Bool, false, true, List, [], ◌∷◌, ◌++◌, Option, Some, None, length, take, drop, refl, sym, ap, ap₂, subst, ◌∙◌, arith}
+use Rattle.std.proofs.Common.{◌≡◌, ℕ, zero, suc, ◌+◌, ◌-◌, ◌<◌, ◌≤◌, inl, Bool, false, true, List, [], ◌∷◌, ◌++◌, Option, Some, None, length, take, drop, refl, sym, ap, ap₂, subst, ◌∙◌, arith}
 use Rattle.std.specs.Prelude.{IfSome, IsTrue, flat_map, get_or, replicate, slice_range}
-use Rattle.std.specs.Option.{is_some}
+use Rattle.std.specs.Option.{is_some, option_map}
 use Rattle.std.proofs.lemmas.List.{append-nil, append_assoc, drop-append-le, drop-take, length-append, length-drop, length-replicate, length-take, take-append-le, take-take, take_more}
 use Rattle.std.proofs.lemmas.Grind.{flat_map-append}
 use Rattle.std.proofs.lemmas.List.Elements.{All-append, All-cons, All-nil, All-weaker}
@@ -15,9 +15,9 @@ use Rattle.lx_scan.specs.declared.place.Match.{Match}
 use Rattle.lx_scan.specs.declared.place.Place.{Place}
 use Rattle.lx_scan.specs.Cursors.{listed, steps_left}
 use Rattle.lx_scan.specs.ItemParts.{len_of, start_of, text_of}
-use Rattle.lx_scan.specs.Items.{first_place, items_after, items_of}
+use Rattle.lx_scan.specs.Items.{first_place, items_after, items_of, steps_at}
 use Rattle.lx_scan.specs.Steps.{items_of_steps}
-use Rattle.lx_scan.specs.Streams.{AreParts, Feeds, Gives, GivesTo, GoesOnBy, HasScanned, IsDrained, IsKept, IsFedOf, IsOver, IsSilentSince, IsWalked, Stream, first_stream, left_in, stream_of}
+use Rattle.lx_scan.specs.Streams.{AreParts, Feeds, Gives, GivesTo, GoesOnBy, HasScanned, IsAfter, IsDrained, IsKept, IsFedOf, IsOver, IsSilentSince, IsWalked, Stream, first_stream, left_in, stream_of}
 use Rattle.lx_scan.proofs.Cursors.{begins}
 use Rattle.lx_scan.proofs.Turns.{drop_further}
 use Rattle.lx_scan.proofs.Walking.{silent_more, walk_more}
@@ -190,27 +190,49 @@ kept_further table bytes start c new ended n item start_within offset inside k =
       to = (let to = k.to in omega (arith, offset));
     }
 
+-- no step is left after no match
+pub none_after : (table : Table) (c : Cursor) (place : Place) → IsAfter c place → items_of_steps (steps_left table c) c.line c.found.start c.found.len ≡ []
+none_after table c place a =
+    ap (λ (steps : List Step). items_of_steps steps c.line c.found.start c.found.len)
+    (ap (λ (r : Option ℕ). drop c.done (steps_at table (option_map (λ rule. (rule, c.found.len)) r))) a.rule ∙ all_done c.done a.done)
+  where
+    nothing : (k : ℕ) → ◌≡◌ {A = List Step} (drop k []) []
+    nothing zero = refl
+    nothing (suc k) = refl
+
+    all_done : (done : ℕ) → 1 ≤ done → ◌≡◌ {A = List Step} (drop done (Echo ∷ [])) []
+    all_done zero h = absurd (omega arith)
+    all_done (suc done) h = nothing done
+
 -- ---- before the first byte
-pub first_parts : (table : Table) (place : Place) (read state : ℕ) (last : Option (ℕ × ℕ)) → IsTable table → place ≡ first_place → IsWalked table place [] read state last →
-    AreParts table [] 0 (record { found = record { rule = None; start = 0; len = 0 }; line = 1; done = 1; place = place }) read state last
-first_parts table place read state last is first walk =
-    let offset : place.offset ≡ 0 = ap (λ (p : Place). p.offset) first in
-    let condition : place.condition ≡ 0 = ap (λ (p : Place). p.condition) first in
-    let line : place.line ≡ 1 = ap (λ (p : Place). p.line) first in
+pub first_parts : (table : Table) (c : Cursor) (place : Place) (read state : ℕ) (last : Option (ℕ × ℕ)) → IsTable table → place ≡ first_place → IsAfter c place → IsWalked table c.place [] read state last →
+    AreParts table [] 0 c read state last
+first_parts table c place read state last is first after walk =
+    let offset : c.place.offset ≡ 0 = ap (λ (p : Place). p.offset) (after.place_is ∙ first) in
+    let condition : c.place.condition ≡ 0 = ap (λ (p : Place). p.condition) (after.place_is ∙ first) in
+    let line : c.place.line ≡ 1 = ap (λ (p : Place). p.line) (after.place_is ∙ first) in
+    let at : place.offset ≡ 0 = ap (λ (p : Place). p.offset) first in
+    let start = after.start in
+    let len = after.len in
     let some = is.machine.some in
     record {
       is_table = is;
       within = omega arith;
-      found = omega arith;
+      found = omega (arith, len);
       front = omega arith;
-      behind = sym offset;
+      behind = omega (arith, start, len, offset, at);
       known = omega (arith, some, condition);
       line_some = omega (arith, line);
       line_few = omega (arith, line);
-      rule = λ i e. absurd (let f : None ≡ Some i = e in cc);
+      rule = λ i e. absurd (let f : None ≡ Some i = sym after.rule ∙ e in cc);
       few = omega (arith, offset);
       walk = walk;
     }
+
+pub first_is : (table : Table) (c : Cursor) (place : Place) → place ≡ first_place → IsAfter c place → stream_of table [] 0 c false ≡ first_stream table
+first_is table c place first after =
+    ap₂ (λ (items : List Item) (p : Place). record { table = table; due = items; kept = []; held = []; place = p; has_ended = false })
+    (none_after table c place after) (after.place_is ∙ first)
 
 -- ---- the next match
 module _ (table : Table) (bytes : List ℕ) (start : ℕ) (c : Cursor) (read state : ℕ) (last : Option (ℕ × ℕ)) (ended : Bool) (m : Match) (next : Place)

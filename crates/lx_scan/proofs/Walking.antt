@@ -90,6 +90,11 @@ module _ (m : Machine) (held : List ℕ) where
         fails_end m (held ++ rest) read state (let len = length-append held rest in let empty : length rest ≡ 0 = ap length none in omega arith);
   }
 
+  -- the walk has stopped, or all of the text was read
+  stopped_or_all : (read state : ℕ) (is_stopped : Bool) → (is_stopped ≡ true → IsStopped m held true read state) → (is_stopped ≡ false → read ≡ length held) → IsStopped m held true read state
+  stopped_or_all read state true stopped all = stopped refl
+  stopped_or_all read state false stopped all = stopped_ended read state (all refl)
+
   -- no byte has a step after them
   pub stopped_dead : (ended : Bool) (read state : ℕ) → read ≡ length held → ((byte : ℕ) → target_of m state byte ≡ None) → IsStopped m held ended read state
   stopped_dead ended read state all dead = record { failed = λ rest end. on rest }
@@ -133,6 +138,12 @@ module _ (m : Machine) (held : List ℕ) where
         let same = append_assoc held block rest in
         subst (λ (w : List ℕ). IsFailed m (drop since w) back) (sym same) (s.silent (block ++ rest) (subst (λ (w : List ℕ). IsFailed m (drop read w) state) same f));
   }
+
+-- a walk over all of a text that was stopped, or has read all
+pub whole_decided : (table : Table) (place : Place) (held : List ℕ) (read state : ℕ) (last : Option (ℕ × ℕ)) (is_stopped : Bool) → IsWalked table place held read state last →
+    (is_stopped ≡ true → IsStopped table.machine held true read state) → (is_stopped ≡ false → read ≡ length held) → IsDecided table place held true last
+whole_decided table place held read state last is_stopped walked stopped all =
+    walk_decided table place held true read state last walked (stopped_or_all table.machine held read state is_stopped stopped all)
 
 -- ---- a memory of the bytes
 module _ (table : Table) (bytes : List ℕ) (ended : Bool) where
@@ -218,11 +229,15 @@ no_step m state bytes numbered none byte = elim (cases_lt byte 256) [
       ap (λ (class : ℕ). class_target m state class) class ∙ none 0 (omega arith)
 ]
 
+-- a memory of the text, which ends after the bytes
+pub memory_whole : (table : Table) (text : List ℕ) (memory : ScanMemory) → IsOpenMemory table text true memory → IsMemoryOf table text memory
+memory_whole table text memory is = subst (λ (w : List ℕ). IsMemoryOf table w memory) (append-nil text) (is.is_memory [] (λ e. refl))
+
 pub ruleset walk_steps = (walk_begun, silent_begun)
 
 -- ---- the match that is decided
 module _ (table : Table) (is : IsTable table) (place : Place) (held : List ℕ) (ended : Bool) (last : Option (ℕ × ℕ)) (d : IsDecided table place held ended last) where
-  furthest_held : last ≡ furthest table place.condition place.at_line_begin held (length held)
+  pub furthest_held : last ≡ furthest table place.condition place.at_line_begin held (length held)
   furthest_held = d.last_is [] (λ e. refl) ∙ ap (λ (w : List ℕ). furthest table place.condition place.at_line_begin w (length w)) (append-nil held)
 
   pub rule_known : ForSome last (λ f. (f.0 < length table.rules) × (0 < f.1))

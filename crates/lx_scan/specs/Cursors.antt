@@ -1,5 +1,5 @@
 -- Between two items of a text.
-use Rattle.std.specs.Prelude.{ℕ, ◌+◌, ◌<◌, ◌≤◌, List, [], ◌∷◌, ◌++◌, Option, Some, None, length, drop}
+use Rattle.std.specs.Prelude.{◌≡◌, ℕ, ◌+◌, ◌<◌, ◌≤◌, List, [], ◌∷◌, ◌++◌, Option, Some, None, length, drop}
 use Rattle.std.specs.Option.{ForSome}
 use Rattle.lx_rules.specs.declared.rule.Step.{Step}
 use Rattle.lx_rules.specs.declared.rule.Step.TheVariants.{Echo, Begin, Return}
@@ -30,9 +30,10 @@ steps_left table c = drop c.done (steps_at table (choice_in c.found))
 abbrev pub items_left : Table → List ℕ → Cursor → List Item
 items_left table text c = items_of_steps (steps_left table c) c.line c.found.start c.found.len ++ items_after table text c.place
 
--- It is in this text, and its rule is one of the tables.
+-- It is in this text, after its match, and its rule is one of the tables.
 pub record IsInText (table : Table) (text : List ℕ) (c : Cursor) : Type 0 where
   pub within : c.place.offset ≤ length text
+  pub behind : c.found.start + c.found.len ≡ c.place.offset
   pub known : c.place.condition < length table.machine.starts
   pub line_some : 1 ≤ c.place.line
   pub line_few : c.place.line ≤ c.place.offset + 1

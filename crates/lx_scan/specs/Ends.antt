@@ -1,5 +1,5 @@
 -- The ends of consecutive matches, as a run over the joined table finds them, and the items that are made of them.
-use Rattle.std.specs.Prelude.{◌≡◌, ℕ, ◌+◌, ◌-◌, ◌<◌, ◌≤◌, nat_eq, if◌then◌else◌, List, [], ◌∷◌, ◌++◌, Option, Some, None, length, slice_index}
+use Rattle.std.specs.Prelude.{◌≡◌, ℕ, ◌+◌, ◌-◌, ◌<◌, ◌≤◌, nat_eq, if◌then◌else◌, List, [], ◌∷◌, ◌++◌, Option, Some, None, length, map, slice_index}
 use Rattle.lx_rules.specs.declared.rule.Step.{Step}
 use Rattle.lx_rules.specs.declared.rule.Step.TheVariants.{Echo}
 use Rattle.lx_tables.specs.Joined.{echoed, item_count}
@@ -22,9 +22,11 @@ steps_of_rule table (Some rule) = (rule_at table rule).steps
 abbrev pub steps_of_code : Table → ℕ → List Step
 steps_of_code table code = steps_of_rule table (rule_of_code table code)
 
--- A match from this place on ended there, of a rule that exists, or of a byte that no rule matches. It gives at most one item.
+-- A match from this place on ended there, of a rule that exists, or of a byte that no rule matches. It gives at most one item. No more newlines are before
+-- its end than bytes.
 pub record IsEnd (table : Table) (start : ℕ) (e : End) : Type 0 where
   pub further : start < e.offset
+  pub line_few : e.line ≤ e.offset + 1
   pub some : 0 < e.code
   pub known : e.code ≤ echoed table
   pub few : item_count (steps_of_code table e.code) ≤ 1
@@ -47,6 +49,14 @@ end_of start (e ∷ es) = end_of e.offset es
 abbrev pub line_of : ℕ → List End → ℕ
 line_of line [] = line
 line_of line (e ∷ es) = line_of e.line es
+
+-- the end of a match in a part of a text, as one in the text: further on by this number of bytes and of lines
+abbrev pub shift_end : ℕ → ℕ → End → End
+shift_end bytes lines e = record { code = e.code; offset = bytes + e.offset; line = lines + e.line }
+
+-- ends that are counted from a place, as ends in the text
+abbrev pub ends_from : Place → List End → List End
+ends_from place ends = map (shift_end place.offset (place.line - 1)) ends
 
 -- the place after them, under a condition
 abbrev pub place_behind : List ℕ → Place → List End → ℕ → Place

@@ -4,7 +4,6 @@ use Rattle.std.specs.Option.{ForSome}
 use Rattle.lx_automaton.specs.Automata.{Machine, start_of, state_after, state_count, target_of}
 use Rattle.lx_tables.specs.Model.{IsTable, Table}
 use Rattle.lx_scan.specs.declared.cursor.Cursor.{Cursor}
-use Rattle.lx_scan.specs.declared.ends.End.{End}
 use Rattle.lx_scan.specs.declared.item.Item.{Item}
 use Rattle.lx_scan.specs.declared.memory.ScanMemory.{ScanMemory}
 use Rattle.lx_scan.specs.declared.place.Match.{Match}
@@ -103,10 +102,6 @@ pub record IsOver (s : Stream) : Type 0 where
   pub none_left : (text : List ℕ) → IsTrue s.has_ended → IsFedOf s text [] → left_in s text ≡ []
 
 -- ---- within the scanner
---  the end of a match in a part of a text, as one in the text: further on by this number of bytes and of lines
-abbrev pub shift_end : ℕ → ℕ → End → End
-shift_end bytes lines e = record { code = e.code; offset = bytes + e.offset; line = lines + e.line }
-
 --  A walk from a place over the bytes that are held: this number of them was read, which led to a state, and this rule was accepted last.
 pub record IsWalked (table : Table) (place : Place) (held : List ℕ) (read state : ℕ) (last : Option (ℕ × ℕ)) : Type 0 where
   pub within : read ≤ length held

@@ -3,7 +3,8 @@
 ghost use Rattle.std.specs.Prelude.{◌≡◌, ◌<◌, ◌≤◌, ℕ, Bool, List, true, false, IfNone, IfSome, OnErr, OnOk, drop, length};
 ghost use Rattle.lx_tables.specs.Model.{Table};
 ghost use Rattle.lx_scan.specs.Cursors.{listed};
-ghost use Rattle.lx_scan.specs.ItemParts.{len_of, start_of, text_of};
+ghost use Rattle.lx_scan.specs.declared.item.Item.{Item};
+ghost use Rattle.lx_scan.specs.ItemParts.{LiesAt, len_of, start_of, text_at, text_of};
 ghost use Rattle.lx_scan.specs.Streams.{Feeds, Gives, GivesTo, IsDrained, IsFedOf, IsKept, IsOpenMemory, IsOver, first_stream};
 
 use crate::item::Item;
@@ -122,6 +123,19 @@ impl BlockScanner {
         let (start, len) = span_of(item);
         let from = start - (self.progress.cursor.place.offset - self.progress.start);
         &self.bytes[from..from + len]
+    }
+
+    /// Returns the bytes that it keeps, and the position of the first of them in the text. They have the bytes of each item that is kept.
+    pub fn bytes(&self) -> (&[u8], usize)
+        ensures within { (item : Item) → IsKept self.now item
+            → LiesAt result.0.now result.1 item }
+        ensures texts { (item : Item) (text rest : List ℕ) → IsKept self.now item
+            → IsFedOf self.now text rest → text_at result.0.now result.1 item ≡ text_of text item }
+    {
+        (
+            &self.bytes,
+            self.progress.cursor.place.offset - self.progress.start,
+        )
     }
 
     /// Returns the next item, or None if none is decided by the bytes that were fed. The tables are those that the scanner was made with. Allocates

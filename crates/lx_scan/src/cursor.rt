@@ -9,13 +9,14 @@ ghost use Rattle.lx_scan.specs.Failing.{IsMemoryOf};
 ghost use Rattle.lx_scan.specs.Items.{items_after, items_of, steps_at};
 ghost use Rattle.lx_scan.specs.Matching.{choice_in};
 ghost use Rattle.lx_scan.specs.Steps.{items_of_steps};
+ghost use Rattle.lx_scan.specs.Streams.{IsAfter};
 
-use crate::appending::append_runs;
 use crate::item::Item;
 use crate::list::ItemList;
 use crate::memory::ScanMemory;
 use crate::place::{Match, Place};
-use crate::scanner::{next_match, next_match_by};
+use crate::progress::Progress;
+use crate::scanner::next_match;
 use lx_rules::rule::Step;
 use lx_tables::Tables;
 use std::alloc::AllocError;
@@ -72,7 +73,8 @@ impl Cursor {
     }
 
     // Returns the cursor before the first item from a place on.
-    fn at(place: Place) -> Cursor
+    pub(crate) fn at(place: Place) -> Cursor
+        ensures after { IsAfter result place }
         ensures items { (table : Table) (text : List ℕ)
             → items_left table text result ≡ items_after table text place }
         ensures in_text { (table : Table) (text : List ℕ) → IsPlace table text place
@@ -81,10 +83,10 @@ impl Cursor {
         Cursor {
             found: Match {
                 rule: None,
-                start: 0,
+                start: place.offset,
                 len: 0,
             },
-            line: 1,
+            line: place.line,
             done: 1,
             place,
         }
@@ -157,47 +159,10 @@ impl Cursor {
             ≡ listed result ++ items_left tables.now text.now self.new }
         ensures end { IfNone result (items_left tables.now text.now self.new ≡ []) }
     {
-        let mut item = self.next_at_match(tables);
-        while item.is_none() {
-            let (found, next) = next_match_by(tables, text, self.place, memory)?;
-            *self = Cursor {
-                found,
-                line: self.place.line,
-                done: 0,
-                place: next,
-            };
-            item = self.next_at_match(tables);
-        }
+        let mut progress = Progress::in_text(tables, text, *self);
+        let item = progress.next_item(tables, text, memory);
+        *self = progress.cursor;
         item
-    }
-
-    // Continues by the joined table while that determines the matches, and notes in `memory` the byte before which it stopped. Does nothing if steps
-    // of the match are left, or if it went that far before. So each match that the joined table doesn't determine is tried only once.
-    fn run_on(
-        &mut self,
-        tables: &Tables,
-        text: &[u8],
-        memory: &mut ScanMemory,
-        most: usize,
-        items: &mut ItemList,
-    ) -> Result<(), AllocError>
-        requires in_text { IsInText tables.now text.now self.old }
-        requires few { length items.old ≤ most }
-        requires memory { IsMemoryOf tables.now text.now memory.old }
-        ensures in_text { IsInText tables.now text.now self.new }
-        ensures memory { IsMemoryOf tables.now text.now memory.new }
-        ensures items { OnOk result (Appends items.old items.new
-            (items_left tables.now text.now self.old)
-            (items_left tables.now text.now self.new)) }
-        ensures most { OnOk result (length items.new ≤ most) }
-    {
-        if self.place.offset < memory.stop || self.done < steps_of_match(tables, self.found).len() {
-            return Ok(());
-        }
-        let reached = append_runs(tables, text, self.place, most, &mut memory.ends, items)?;
-        *self = Cursor::at(reached.place);
-        memory.stop = reached.stop;
-        Ok(())
     }
 
     /// Appends the next items to a list until it has `most`, or all items if fewer are left. Finds most of them by the joined table, without a jump
@@ -224,19 +189,9 @@ impl Cursor {
             (length items.new < most → items_left tables.now text.now self.new ≡ []) }
         ensures err { OnErr result (self.new ≡ self.old) }
     {
-        let mut cursor = *self;
-        'further: while items.len() < most {
-            cursor.run_on(tables, text, memory, most, items)?;
-            if items.len() == most {
-                break;
-            }
-            let Some(item) = cursor.next_item_by(tables, text, memory) else {
-                *self = cursor;
-                return Ok(());
-            };
-            items.push(item)?;
-        }
-        *self = cursor;
+        let mut progress = Progress::in_text(tables, text, *self);
+        progress.next_items(tables, text, memory, most, items)?;
+        *self = progress.cursor;
         Ok(())
     }
 }

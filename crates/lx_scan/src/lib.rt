@@ -2,7 +2,6 @@
 #![tactic(auto)]
 
 pub mod answering;
-mod appending;
 pub mod block_scanner;
 pub mod blocks;
 mod choice;
@@ -12,7 +11,6 @@ pub mod flat;
 pub mod item;
 pub mod lines;
 pub mod list;
-mod longest;
 pub mod memory;
 pub mod place;
 mod progress;

@@ -1,10 +1,10 @@
 //! Lists of items that are reused.
 
-ghost use Rattle.std.specs.Prelude.{◌≡◌, ◌<◌, ◌≤◌, ◌+◌, ◌-◌, [], ◌∷◌, ◌++◌, ℕ, IfNone, IfOk, OnOk, if◌then◌else◌, length, nat_eq, slice_index, take};
+ghost use Rattle.std.specs.Prelude.{◌≡◌, ◌<◌, ◌≤◌, ◌+◌, ◌-◌, ◌^◌, [], ◌∷◌, ◌++◌, ℕ, IfNone, IfOk, OnOk, if◌then◌else◌, length, nat_eq, slice_index, take};
 ghost use Rattle.lx_tables.specs.Joined.{AreLabels};
 ghost use Rattle.lx_tables.specs.Model.{Table};
 ghost use Rattle.lx_scan.specs.Cursors.{listed};
-ghost use Rattle.lx_scan.specs.Ends.{AreEnds, end_of, items_of_ends, line_of};
+ghost use Rattle.lx_scan.specs.Ends.{AreEnds, end_of, ends_from, items_of_ends, line_of};
 
 use crate::ends::End;
 use crate::flat::FlatItem;
@@ -71,8 +71,8 @@ struct Placed {
     line: u64,
 }
 
-// Places the items of matches one after the other. Each match writes an item after the last one, which counts only if the match has one. So no jump
-// depends on that.
+// Places the items of matches one after the other, whose ends are counted from a place. Each match writes an item after the last one, which counts only
+// if the match has one. So no jump depends on that.
 fn place_items(
     tables: &Tables,
     labels: &[u64],
@@ -82,30 +82,34 @@ fn place_items(
     at: usize,
 ) -> Placed
     requires labels { AreLabels tables.now labels.now }
-    requires ends { AreEnds tables.now from.offset ends.now }
+    requires ends { AreEnds tables.now from.offset (ends_from from ends.now) }
+    requires end { end_of from.offset (ends_from from ends.now) + 1 < 2 ^ 64 }
+    requires line { 1 ≤ from.line }
     requires room { at + length ends.now ≤ length room.old }
-    ensures items { take result.len room.new
-        ≡ take at room.old ++ items_of_ends tables.now from.offset from.line ends.now }
+    ensures items { take result.len room.new ≡ take at room.old
+        ++ items_of_ends tables.now from.offset from.line (ends_from from ends.now) }
     ensures few { result.len ≤ at + length ends.now }
     ensures within { result.len ≤ length room.new }
-    ensures offset { result.offset ≡ end_of from.offset ends.now }
-    ensures line { result.line ≡ line_of from.line ends.now }
+    ensures offset { result.offset ≡ end_of from.offset (ends_from from ends.now) }
+    ensures line { result.line ≡ line_of from.line (ends_from from ends.now) }
 {
+    let lines = from.line - 1;
     let mut rest = ends;
     let mut start = from.offset;
     let mut line = from.line;
     let mut len = at;
     while let Some((end, more)) = rest.split_first() {
         let label = labels[end.code];
+        let offset = from.offset + end.offset;
         room[len] = FlatItem {
             line,
             start,
-            len: end.offset - start,
+            len: offset - start,
             label,
         };
         len += item_count(label);
-        start = end.offset;
-        line = end.line;
+        start = offset;
+        line = lines + end.line;
         rest = more;
     }
     Placed {
@@ -178,7 +182,7 @@ impl ItemList {
         Some(self.room[self.len].item())
     }
 
-    /// Appends the items of matches. Returns the position where the last match ended, and the line there.
+    /// Appends the items of matches, whose ends are counted from a place. Returns the position where the last match ended, and the line there.
     pub(crate) fn push_ends(
         &mut self,
         tables: &Tables,
@@ -187,12 +191,15 @@ impl ItemList {
         from: Place,
     ) -> Result<(usize, u64), AllocError>
         requires labels { AreLabels tables.now labels.now }
-        requires ends { AreEnds tables.now from.offset ends.now }
-        ensures items { OnOk result
-            (self.new ≡ self.old ++ items_of_ends tables.now from.offset from.line ends.now) }
+        requires ends { AreEnds tables.now from.offset (ends_from from ends.now) }
+        requires end { end_of from.offset (ends_from from ends.now) + 1 < 2 ^ 64 }
+        requires line { 1 ≤ from.line }
+        ensures items { OnOk result (self.new ≡ self.old
+            ++ items_of_ends tables.now from.offset from.line (ends_from from ends.now)) }
         ensures few { OnOk result (length self.new ≤ length self.old + length ends.now) }
-        ensures offset { IfOk result (λ end. end.0 ≡ end_of from.offset ends.now) }
-        ensures line { IfOk result (λ end. end.1 ≡ line_of from.line ends.now) }
+        ensures offset { IfOk result
+            (λ end. end.0 ≡ end_of from.offset (ends_from from ends.now)) }
+        ensures line { IfOk result (λ end. end.1 ≡ line_of from.line (ends_from from ends.now)) }
     {
         make_room(&mut self.room, self.len + ends.len())?;
         let placed = place_items(tables, labels, ends, from, &mut self.room, self.len);

@@ -140,16 +140,6 @@ impl ScanMemory {
         is_marked(&self.marks, place, state.0 as u16 + 1) || is_among(&self.others, place, state)
     }
 
-    // Makes room for the numbers of a text, unless an allocation fails.
-    pub(crate) fn make_room(&mut self, len: usize)
-        ensures { (table : Table) (text : List ℕ) → IsMemoryOf table text self.old
-            → IsMemoryOf table text self.new }
-    {
-        if self.marks.is_empty() {
-            let _ = self.marks.resize((len / SPACING + 1) * STATES, 0);
-        }
-    }
-
     /// Forgets all, also where the last run stopped, and keeps its memory.
     pub(crate) fn clear(&mut self)
         ensures { (table : Table) (text : List ℕ) → IsMemoryOf table text self.new }
@@ -159,7 +149,7 @@ impl ScanMemory {
         self.stop = 0;
     }
 
-    /// Makes room for the numbers of a text that has grown, unless an allocation fails.
+    /// Makes room for the numbers of a text with this many bytes, unless an allocation fails.
     pub(crate) fn grow(&mut self, len: usize)
         ensures { (table : Table) (text : List ℕ) → IsMemoryOf table text self.old
             → IsMemoryOf table text self.new }

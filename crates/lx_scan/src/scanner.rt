@@ -3,7 +3,6 @@
 ghost use Rattle.std.specs.Prelude.{◌≡◌, ◌<◌, ◌≤◌, ◌+◌, ◌-◌, ◌^◌, ◌++◌, length, nat_eq, slice_index, take, drop, None, IfOk, OnOk, MatchOption};
 ghost use Rattle.std.specs.Option.{ForSome, option_map};
 ghost use Rattle.lx_tables.specs.Model.{IsTable};
-ghost use Rattle.lx_scan.specs.Failing.{IsMemoryOf};
 ghost use Rattle.lx_scan.specs.Items.{items_of, steps_at};
 ghost use Rattle.lx_scan.specs.Matching.{GoesOn, IsFound, choice_in};
 ghost use Rattle.lx_scan.specs.Steps.{condition_after, items_of_steps, newlines};
@@ -12,7 +11,6 @@ use crate::choice::choose;
 use crate::cursor::{Cursor, steps_of_match};
 use crate::item::Item;
 use crate::list::ItemList;
-use crate::longest::choose_by;
 use crate::memory::ScanMemory;
 use crate::place::{Match, Place};
 use lx_rules::rule::Step;
@@ -74,19 +72,6 @@ fn match_at(tables: &Tables, rest: &[u8], place: Place) -> Match
     match_of(place.offset, choice)
 }
 
-// Returns the match at a place of a text, with a memory of the text.
-fn match_by(tables: &Tables, text: &[u8], place: Place, memory: &mut ScanMemory) -> Match
-    requires known { place.condition < length tables.now.machine.starts }
-    requires more { place.offset < length text.now }
-    requires memory { IsMemoryOf tables.now text.now memory.old }
-    ensures table { IsTable tables.now }
-    ensures found { IsFound tables.now (drop place.offset text.now) place result }
-    ensures memory { IsMemoryOf tables.now text.now memory.new }
-{
-    let choice = choose_by(tables, text, place, memory);
-    match_of(place.offset, choice)
-}
-
 // Returns the place after a match. It is at line begin exactly if the match's last byte is a newline.
 pub(crate) fn place_after(tables: &Tables, rest: &[u8], place: Place, found: Match) -> Place
     requires some { 0 < found.len }
@@ -126,30 +111,6 @@ pub fn next_match(tables: &Tables, text: &[u8], place: Place) -> Option<(Match, 
     let rest = &text[place.offset..];
     let found = match_at(tables, rest, place);
     let next = place_after(tables, rest, place, found);
-    Some((found, next))
-}
-
-/// Does the same as `next_match`, with a memory of the text, which grows after a long failed lookahead.
-pub(crate) fn next_match_by(
-    tables: &Tables,
-    text: &[u8],
-    place: Place,
-    memory: &mut ScanMemory,
-) -> Option<(Match, Place)>
-    requires within { place.offset ≤ length text.now }
-    requires known { place.condition < length tables.now.machine.starts }
-    requires line_some { 1 ≤ place.line }
-    requires line_few { place.line ≤ place.offset + 1 }
-    requires memory { IsMemoryOf tables.now text.now memory.old }
-    ensures found { MatchOption result (place.offset ≡ length text.now)
-        (λ found. GoesOn tables.now text.now place found.0 found.1) }
-    ensures memory { IsMemoryOf tables.now text.now memory.new }
-{
-    if place.offset == text.len() {
-        return None;
-    }
-    let found = match_by(tables, text, place, memory);
-    let next = place_after(tables, &text[place.offset..], place, found);
     Some((found, next))
 }
 

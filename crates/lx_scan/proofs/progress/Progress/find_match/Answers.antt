@@ -11,8 +11,8 @@ remember-requires-clause-stopped c =
     let m = c.args.tables.now.machine in
     let at = c.args.self.now in
     let held : List ℕ = drop at.start c.args.bytes.now in
-    let walk = c.walk_on-is_stopped.result.0 in
-    let facts = c.walk_on-is_stopped.ensures in
+    let walk = c.over-is_stopped.result.0 in
+    let facts = c.over-is_stopped.ensures in
     elim c.else-not-is_stopped.branch as (λ _. IsStopped m held at.has_ended walk.read walk.state.0) [
       | else-not-is_stopped-via-then-not-is_stopped+then-not-self+else-has_step w ↦
           stopped_dead m held at.has_ended walk.read walk.state.0 (facts.all w.if-not-is_stopped.true) (w.has_step.ensures.none w.if-has_step.false)
@@ -26,8 +26,8 @@ decide-requires-clause-decided c =
     let table = c.args.tables.now in
     let at = c.args.self.now in
     let held : List ℕ = drop at.start c.args.bytes.now in
-    let walk = c.walk_on-is_stopped.result.0 in
-    let facts = c.walk_on-is_stopped.ensures in
+    let walk = c.over-is_stopped.result.0 in
+    let facts = c.over-is_stopped.ensures in
     let stopped : IsStopped table.machine held at.has_ended walk.read walk.state.0
     = elim c.else-not-is_stopped.branch as (λ _. IsStopped table.machine held at.has_ended walk.read walk.state.0) [
       | else-not-is_stopped-via-then-not-is_stopped+then-not-self+else-has_step w ↦

@@ -1,170 +1,28 @@
-use Rattle.std.proofs.Common.{◌≡◌, ◌+◌, ◌-◌, [], ℕ, Bool, nat_eq, List, length, take, drop, refl, sym, ap, subst, ◌∙◌, arith}
-use Rattle.std.specs.Prelude.{slice_index}
-use Rattle.std.proofs.lemmas.List.{length-take-le, take_rest}
-use Rattle.lx_scan.specs.declared.place.Place.{Place}
-use Rattle.lx_scan.specs.Cursors.{steps_left}
-use Rattle.lx_scan.specs.Ends.{end_of, items_of_ends}
-use Rattle.lx_scan.specs.Steps.{items_of_steps}
-use Rattle.lx_scan.specs.Streams.{AreParts, GivesTo, IsWalked, stream_of}
-use Rattle.lx_scan.proofs.BlockRuns.{are_run, end_run, further, gives_to_run, inside, items_moved, known_run, leads_held, next, next_is, none_after, parts_run}
+use Rattle.std.proofs.Common.{Bool, arith, subst, ◌∙◌, refl}
+use Rattle.lx_scan.specs.Streams.{IsOpenMemory, stream_at}
+use Rattle.lx_scan.proofs.Streaming.{gives_none, gives_nothing, gives_to_both}
 use Rattle.lx_scan.proofs.progress.Progress.run_on.Goals as goal
 
-pub push_ends-requires-clause-ends : goal.push_ends-requires-clause-ends
-push_ends-requires-clause-ends c = are_run c.args.tables.now c.args.bytes.now c.args.self.now.start c.args.self.now.cursor c.args.self.now.walk.read c.args.self.now.walk.state.0 c.args.self.now.walk.found.last c.args.self.now.has_ended
-    c.requires.progress.parts (c.may_run.ensures.none_due c.if-not-may_run.false)
-    (record { offset = 0; condition = c.args.self.now.cursor.place.condition; at_line_begin = c.args.self.now.cursor.place.at_line_begin; line = 1 }) refl
-    (take c.find_ends-run.result.count c.find_ends-run.new.ends) c.find_ends-run.result.condition (let none = c.if-run-eq0.false in omega (arith, none, length-take-le c.find_ends-run.result.count c.find_ends-run.new.ends c.find_ends-run.ensures.within))
-    (leads_held c.args.tables.now c.args.bytes.now c.args.self.now.start (record { offset = 0; condition = c.args.self.now.cursor.place.condition; at_line_begin = c.args.self.now.cursor.place.at_line_begin; line = 1 })
-    (take c.find_ends-run.result.count c.find_ends-run.new.ends) c.find_ends-run.result.condition (c.find_ends-run.ensures.ends (let none = c.if-run-eq0.false in omega (arith, none))))
-    c.shift_ends.new.ends (c.shift_ends.ensures.moved c.if-not-shift_ends.false)
+pub loop-self-init : goal.loop-self-init
+loop-self-init c = record {
+  progress = c.requires.progress;
+  memory = c.requires.memory;
+  ended = refl;
+  gives = (let s = stream_at c.args.tables.now c.args.bytes.now c.args.self.now in gives_nothing s s c.args.items.now (gives_none s));
+  few = c.requires.few;
+}
 
-pub moved_to-requires-clause-known : goal.moved_to-requires-clause-known
-moved_to-requires-clause-known c = known_run c.args.tables.now c.args.bytes.now c.args.self.now.start c.args.self.now.cursor c.args.self.now.walk.read c.args.self.now.walk.state.0 c.args.self.now.walk.found.last c.args.self.now.has_ended
-    c.requires.progress.parts (c.may_run.ensures.none_due c.if-not-may_run.false)
-    (record { offset = 0; condition = c.args.self.now.cursor.place.condition; at_line_begin = c.args.self.now.cursor.place.at_line_begin; line = 1 }) refl
-    (take c.find_ends-run.result.count c.find_ends-run.new.ends) c.find_ends-run.result.condition (let none = c.if-run-eq0.false in omega (arith, none, length-take-le c.find_ends-run.result.count c.find_ends-run.new.ends c.find_ends-run.ensures.within))
-    (leads_held c.args.tables.now c.args.bytes.now c.args.self.now.start (record { offset = 0; condition = c.args.self.now.cursor.place.condition; at_line_begin = c.args.self.now.cursor.place.at_line_begin; line = 1 })
-    (take c.find_ends-run.result.count c.find_ends-run.new.ends) c.find_ends-run.result.condition (c.find_ends-run.ensures.ends (let none = c.if-run-eq0.false in omega (arith, none))))
-    c.shift_ends.new.ends (c.shift_ends.ensures.moved c.if-not-shift_ends.false)
+pub returns-then-not-branch-clause-gives : goal.returns-then-not-branch-clause-gives
+returns-then-not-branch-clause-gives c =
+    gives_to_both (stream_at c.args.tables.now c.args.bytes.now c.args.self.now) (stream_at c.args.tables.now c.args.bytes.now c.loop-self.self) (stream_at c.args.tables.now c.args.bytes.now c.run.new.self)
+    c.args.items.now c.loop-self.items c.run.new.items c.loop-self.invariant.gives c.in_ok-run.ensures.gives
 
-pub overflow_sub-place : goal.overflow_sub-place
-overflow_sub-place c =
-    let end = end_run c.args.tables.now c.args.bytes.now c.args.self.now.start c.args.self.now.cursor c.args.self.now.walk.read c.args.self.now.walk.state.0 c.args.self.now.walk.found.last c.args.self.now.has_ended
-    c.requires.progress.parts (c.may_run.ensures.none_due c.if-not-may_run.false)
-    (record { offset = 0; condition = c.args.self.now.cursor.place.condition; at_line_begin = c.args.self.now.cursor.place.at_line_begin; line = 1 }) refl
-    (take c.find_ends-run.result.count c.find_ends-run.new.ends) c.find_ends-run.result.condition (let none = c.if-run-eq0.false in omega (arith, none, length-take-le c.find_ends-run.result.count c.find_ends-run.new.ends c.find_ends-run.ensures.within))
-    (leads_held c.args.tables.now c.args.bytes.now c.args.self.now.start (record { offset = 0; condition = c.args.self.now.cursor.place.condition; at_line_begin = c.args.self.now.cursor.place.at_line_begin; line = 1 })
-    (take c.find_ends-run.result.count c.find_ends-run.new.ends) c.find_ends-run.result.condition (c.find_ends-run.ensures.ends (let none = c.if-run-eq0.false in omega (arith, none))))
-    c.shift_ends.new.ends (c.shift_ends.ensures.moved c.if-not-shift_ends.false) in
-    let offset = c.in_ok-offset.ensures.offset in
-    omega (arith, end, offset)
-
-pub overflow_sub-place-2 : goal.overflow_sub-place-2
-overflow_sub-place-2 c =
-    let end = end_run c.args.tables.now c.args.bytes.now c.args.self.now.start c.args.self.now.cursor c.args.self.now.walk.read c.args.self.now.walk.state.0 c.args.self.now.walk.found.last c.args.self.now.has_ended
-    c.requires.progress.parts (c.may_run.ensures.none_due c.if-not-may_run.false)
-    (record { offset = 0; condition = c.args.self.now.cursor.place.condition; at_line_begin = c.args.self.now.cursor.place.at_line_begin; line = 1 }) refl
-    (take c.find_ends-run.result.count c.find_ends-run.new.ends) c.find_ends-run.result.condition (let none = c.if-run-eq0.false in omega (arith, none, length-take-le c.find_ends-run.result.count c.find_ends-run.new.ends c.find_ends-run.ensures.within))
-    (leads_held c.args.tables.now c.args.bytes.now c.args.self.now.start (record { offset = 0; condition = c.args.self.now.cursor.place.condition; at_line_begin = c.args.self.now.cursor.place.at_line_begin; line = 1 })
-    (take c.find_ends-run.result.count c.find_ends-run.new.ends) c.find_ends-run.result.condition (c.find_ends-run.ensures.ends (let none = c.if-run-eq0.false in omega (arith, none))))
-    c.shift_ends.new.ends (c.shift_ends.ensures.moved c.if-not-shift_ends.false) in
-    let some = further c.args.tables.now c.args.bytes.now c.args.self.now.start c.args.self.now.cursor c.args.self.now.walk.read c.args.self.now.walk.state.0 c.args.self.now.walk.found.last c.args.self.now.has_ended
-    c.requires.progress.parts (c.may_run.ensures.none_due c.if-not-may_run.false)
-    (record { offset = 0; condition = c.args.self.now.cursor.place.condition; at_line_begin = c.args.self.now.cursor.place.at_line_begin; line = 1 }) refl
-    (take c.find_ends-run.result.count c.find_ends-run.new.ends) c.find_ends-run.result.condition (let none = c.if-run-eq0.false in omega (arith, none, length-take-le c.find_ends-run.result.count c.find_ends-run.new.ends c.find_ends-run.ensures.within))
-    (leads_held c.args.tables.now c.args.bytes.now c.args.self.now.start (record { offset = 0; condition = c.args.self.now.cursor.place.condition; at_line_begin = c.args.self.now.cursor.place.at_line_begin; line = 1 })
-    (take c.find_ends-run.result.count c.find_ends-run.new.ends) c.find_ends-run.result.condition (c.find_ends-run.ensures.ends (let none = c.if-run-eq0.false in omega (arith, none)))) in
-    let offset = c.in_ok-offset.ensures.offset in
-    omega (arith, end, offset, some)
-
-pub moved_to-requires-clause-further : goal.moved_to-requires-clause-further
-moved_to-requires-clause-further c =
-    let end = end_run c.args.tables.now c.args.bytes.now c.args.self.now.start c.args.self.now.cursor c.args.self.now.walk.read c.args.self.now.walk.state.0 c.args.self.now.walk.found.last c.args.self.now.has_ended
-    c.requires.progress.parts (c.may_run.ensures.none_due c.if-not-may_run.false)
-    (record { offset = 0; condition = c.args.self.now.cursor.place.condition; at_line_begin = c.args.self.now.cursor.place.at_line_begin; line = 1 }) refl
-    (take c.find_ends-run.result.count c.find_ends-run.new.ends) c.find_ends-run.result.condition (let none = c.if-run-eq0.false in omega (arith, none, length-take-le c.find_ends-run.result.count c.find_ends-run.new.ends c.find_ends-run.ensures.within))
-    (leads_held c.args.tables.now c.args.bytes.now c.args.self.now.start (record { offset = 0; condition = c.args.self.now.cursor.place.condition; at_line_begin = c.args.self.now.cursor.place.at_line_begin; line = 1 })
-    (take c.find_ends-run.result.count c.find_ends-run.new.ends) c.find_ends-run.result.condition (c.find_ends-run.ensures.ends (let none = c.if-run-eq0.false in omega (arith, none))))
-    c.shift_ends.new.ends (c.shift_ends.ensures.moved c.if-not-shift_ends.false) in
-    let offset = c.in_ok-offset.ensures.offset in
-    omega (arith, end, offset)
-
-pub bounds-held-offset : goal.bounds-held-offset
-bounds-held-offset c =
-    let end = end_run c.args.tables.now c.args.bytes.now c.args.self.now.start c.args.self.now.cursor c.args.self.now.walk.read c.args.self.now.walk.state.0 c.args.self.now.walk.found.last c.args.self.now.has_ended
-    c.requires.progress.parts (c.may_run.ensures.none_due c.if-not-may_run.false)
-    (record { offset = 0; condition = c.args.self.now.cursor.place.condition; at_line_begin = c.args.self.now.cursor.place.at_line_begin; line = 1 }) refl
-    (take c.find_ends-run.result.count c.find_ends-run.new.ends) c.find_ends-run.result.condition (let none = c.if-run-eq0.false in omega (arith, none, length-take-le c.find_ends-run.result.count c.find_ends-run.new.ends c.find_ends-run.ensures.within))
-    (leads_held c.args.tables.now c.args.bytes.now c.args.self.now.start (record { offset = 0; condition = c.args.self.now.cursor.place.condition; at_line_begin = c.args.self.now.cursor.place.at_line_begin; line = 1 })
-    (take c.find_ends-run.result.count c.find_ends-run.new.ends) c.find_ends-run.result.condition (c.find_ends-run.ensures.ends (let none = c.if-run-eq0.false in omega (arith, none))))
-    c.shift_ends.new.ends (c.shift_ends.ensures.moved c.if-not-shift_ends.false) in
-    let some = further c.args.tables.now c.args.bytes.now c.args.self.now.start c.args.self.now.cursor c.args.self.now.walk.read c.args.self.now.walk.state.0 c.args.self.now.walk.found.last c.args.self.now.has_ended
-    c.requires.progress.parts (c.may_run.ensures.none_due c.if-not-may_run.false)
-    (record { offset = 0; condition = c.args.self.now.cursor.place.condition; at_line_begin = c.args.self.now.cursor.place.at_line_begin; line = 1 }) refl
-    (take c.find_ends-run.result.count c.find_ends-run.new.ends) c.find_ends-run.result.condition (let none = c.if-run-eq0.false in omega (arith, none, length-take-le c.find_ends-run.result.count c.find_ends-run.new.ends c.find_ends-run.ensures.within))
-    (leads_held c.args.tables.now c.args.bytes.now c.args.self.now.start (record { offset = 0; condition = c.args.self.now.cursor.place.condition; at_line_begin = c.args.self.now.cursor.place.at_line_begin; line = 1 })
-    (take c.find_ends-run.result.count c.find_ends-run.new.ends) c.find_ends-run.result.condition (c.find_ends-run.ensures.ends (let none = c.if-run-eq0.false in omega (arith, none)))) in
-    let within = inside c.args.tables.now c.args.bytes.now c.args.self.now.start c.args.self.now.cursor c.args.self.now.walk.read c.args.self.now.walk.state.0 c.args.self.now.walk.found.last c.args.self.now.has_ended
-    c.requires.progress.parts (c.may_run.ensures.none_due c.if-not-may_run.false)
-    (record { offset = 0; condition = c.args.self.now.cursor.place.condition; at_line_begin = c.args.self.now.cursor.place.at_line_begin; line = 1 }) refl
-    (take c.find_ends-run.result.count c.find_ends-run.new.ends) c.find_ends-run.result.condition (let none = c.if-run-eq0.false in omega (arith, none, length-take-le c.find_ends-run.result.count c.find_ends-run.new.ends c.find_ends-run.ensures.within))
-    (leads_held c.args.tables.now c.args.bytes.now c.args.self.now.start (record { offset = 0; condition = c.args.self.now.cursor.place.condition; at_line_begin = c.args.self.now.cursor.place.at_line_begin; line = 1 })
-    (take c.find_ends-run.result.count c.find_ends-run.new.ends) c.find_ends-run.result.condition (c.find_ends-run.ensures.ends (let none = c.if-run-eq0.false in omega (arith, none)))) in
-    let offset = c.in_ok-offset.ensures.offset in
-    let long = ap length (take_rest c.args.bytes.now c.args.self.now.start) in
-    omega (arith, end, offset, some, within, long)
-
--- the place after the run, and the number of bytes up to it
-place_there : (c : goal.After-moved_to) → c.moved_to.result.cursor.place ≡ next c.args.tables.now c.args.bytes.now c.args.self.now.start c.args.self.now.cursor c.args.self.now.walk.read c.args.self.now.walk.state.0 c.args.self.now.walk.found.last c.args.self.now.has_ended
-    c.requires.progress.parts (c.may_run.ensures.none_due c.if-not-may_run.false)
-    (record { offset = 0; condition = c.args.self.now.cursor.place.condition; at_line_begin = c.args.self.now.cursor.place.at_line_begin; line = 1 }) refl
-    (take c.find_ends-run.result.count c.find_ends-run.new.ends) c.find_ends-run.result.condition (let none = c.if-run-eq0.false in omega (arith, none, length-take-le c.find_ends-run.result.count c.find_ends-run.new.ends c.find_ends-run.ensures.within))
-    (leads_held c.args.tables.now c.args.bytes.now c.args.self.now.start (record { offset = 0; condition = c.args.self.now.cursor.place.condition; at_line_begin = c.args.self.now.cursor.place.at_line_begin; line = 1 })
-    (take c.find_ends-run.result.count c.find_ends-run.new.ends) c.find_ends-run.result.condition (c.find_ends-run.ensures.ends (let none = c.if-run-eq0.false in omega (arith, none))))
-place_there c =
-    c.moved_to.ensures.cursor.place_is
-    ∙ next_is c.args.tables.now c.args.bytes.now c.args.self.now.start c.args.self.now.cursor c.args.self.now.walk.read c.args.self.now.walk.state.0 c.args.self.now.walk.found.last c.args.self.now.has_ended
-    c.requires.progress.parts (c.may_run.ensures.none_due c.if-not-may_run.false)
-    (record { offset = 0; condition = c.args.self.now.cursor.place.condition; at_line_begin = c.args.self.now.cursor.place.at_line_begin; line = 1 }) refl
-    (take c.find_ends-run.result.count c.find_ends-run.new.ends) c.find_ends-run.result.condition (let none = c.if-run-eq0.false in omega (arith, none, length-take-le c.find_ends-run.result.count c.find_ends-run.new.ends c.find_ends-run.ensures.within))
-    (leads_held c.args.tables.now c.args.bytes.now c.args.self.now.start (record { offset = 0; condition = c.args.self.now.cursor.place.condition; at_line_begin = c.args.self.now.cursor.place.at_line_begin; line = 1 })
-    (take c.find_ends-run.result.count c.find_ends-run.new.ends) c.find_ends-run.result.condition (c.find_ends-run.ensures.ends (let none = c.if-run-eq0.false in omega (arith, none))))
-    c.shift_ends.new.ends (c.shift_ends.ensures.moved c.if-not-shift_ends.false) c.in_ok-offset.offset c.in_ok-offset.line _ c.in_ok-offset.ensures.offset c.in_ok-offset.ensures.line
-    (ap (λ (w : List ℕ). nat_eq (slice_index w (c.in_ok-offset.offset - c.args.self.now.cursor.place.offset - 1)) 10) (take_rest c.args.bytes.now c.args.self.now.start))
-
-start_there : (c : goal.After-moved_to) → c.moved_to.result.start ≡ c.args.self.now.start + end_of 0 (take c.find_ends-run.result.count c.find_ends-run.new.ends)
-start_there c =
-    let end = end_run c.args.tables.now c.args.bytes.now c.args.self.now.start c.args.self.now.cursor c.args.self.now.walk.read c.args.self.now.walk.state.0 c.args.self.now.walk.found.last c.args.self.now.has_ended
-    c.requires.progress.parts (c.may_run.ensures.none_due c.if-not-may_run.false)
-    (record { offset = 0; condition = c.args.self.now.cursor.place.condition; at_line_begin = c.args.self.now.cursor.place.at_line_begin; line = 1 }) refl
-    (take c.find_ends-run.result.count c.find_ends-run.new.ends) c.find_ends-run.result.condition (let none = c.if-run-eq0.false in omega (arith, none, length-take-le c.find_ends-run.result.count c.find_ends-run.new.ends c.find_ends-run.ensures.within))
-    (leads_held c.args.tables.now c.args.bytes.now c.args.self.now.start (record { offset = 0; condition = c.args.self.now.cursor.place.condition; at_line_begin = c.args.self.now.cursor.place.at_line_begin; line = 1 })
-    (take c.find_ends-run.result.count c.find_ends-run.new.ends) c.find_ends-run.result.condition (c.find_ends-run.ensures.ends (let none = c.if-run-eq0.false in omega (arith, none))))
-    c.shift_ends.new.ends (c.shift_ends.ensures.moved c.if-not-shift_ends.false) in
-    let offset = c.in_ok-offset.ensures.offset in
-    let start = c.moved_to.ensures.start in
-    omega (arith, end, offset, start)
-
-none_there : (c : goal.After-moved_to) → items_of_steps (steps_left c.args.tables.now c.moved_to.result.cursor) c.moved_to.result.cursor.line c.moved_to.result.cursor.found.start c.moved_to.result.cursor.found.len ≡ []
-none_there c = none_after c.args.tables.now c.moved_to.result.cursor _ c.moved_to.ensures.cursor
-
-pub returns-clause-progress : goal.returns-clause-progress
-returns-clause-progress c =
-    let new = c.moved_to.result in
-    let after = c.moved_to.ensures.cursor in
-    let there : ℕ = c.args.self.now.start + end_of 0 (take c.find_ends-run.result.count c.find_ends-run.new.ends) in
-    record {
-      parts = subst (λ (k : ℕ). AreParts c.args.tables.now c.args.bytes.now k new.cursor new.walk.read new.walk.state.0 new.walk.found.last) (sym (start_there c))
-          (parts_run c.args.tables.now c.args.bytes.now c.args.self.now.start c.args.self.now.cursor c.args.self.now.walk.read c.args.self.now.walk.state.0 c.args.self.now.walk.found.last c.args.self.now.has_ended
-          c.requires.progress.parts (c.may_run.ensures.none_due c.if-not-may_run.false)
-          (record { offset = 0; condition = c.args.self.now.cursor.place.condition; at_line_begin = c.args.self.now.cursor.place.at_line_begin; line = 1 }) refl
-          (take c.find_ends-run.result.count c.find_ends-run.new.ends) c.find_ends-run.result.condition (let none = c.if-run-eq0.false in omega (arith, none, length-take-le c.find_ends-run.result.count c.find_ends-run.new.ends c.find_ends-run.ensures.within))
-          (leads_held c.args.tables.now c.args.bytes.now c.args.self.now.start (record { offset = 0; condition = c.args.self.now.cursor.place.condition; at_line_begin = c.args.self.now.cursor.place.at_line_begin; line = 1 })
-          (take c.find_ends-run.result.count c.find_ends-run.new.ends) c.find_ends-run.result.condition (c.find_ends-run.ensures.ends (let none = c.if-run-eq0.false in omega (arith, none))))
-          new.cursor (place_there c) (none_there c) new.walk.read new.walk.state.0 new.walk.found.last after.len (after.start ∙ sym (ap (λ (p : Place). p.offset) after.place_is)) after.rule
-          (subst (λ (p : Place). IsWalked c.args.tables.now p (drop there c.args.bytes.now) new.walk.read new.walk.state.0 new.walk.found.last) (sym after.place_is) (c.moved_to.ensures.walked (drop there c.args.bytes.now))));
-      silent = c.moved_to.ensures.silent (drop new.start c.args.bytes.now);
-    }
-
-pub returns-clause-gives : goal.returns-clause-gives
-returns-clause-gives c =
-    let new = c.moved_to.result in
-    let at = c.args.self.now in
-    let table = c.args.tables.now in
-    let bytes = c.args.bytes.now in
-    subst (λ (ended : Bool). GivesTo (stream_of table bytes at.start at.cursor at.has_ended) (stream_of table bytes new.start new.cursor ended) c.args.items.now c.push_ends.new.self) (sym c.moved_to.ensures.ended)
-    (subst (λ (k : ℕ). GivesTo (stream_of table bytes at.start at.cursor at.has_ended) (stream_of table bytes k new.cursor at.has_ended) c.args.items.now c.push_ends.new.self) (sym (start_there c))
-    (gives_to_run c.args.tables.now c.args.bytes.now c.args.self.now.start c.args.self.now.cursor c.args.self.now.walk.read c.args.self.now.walk.state.0 c.args.self.now.walk.found.last c.args.self.now.has_ended
-    c.requires.progress.parts (c.may_run.ensures.none_due c.if-not-may_run.false)
-    (record { offset = 0; condition = c.args.self.now.cursor.place.condition; at_line_begin = c.args.self.now.cursor.place.at_line_begin; line = 1 }) refl
-    (take c.find_ends-run.result.count c.find_ends-run.new.ends) c.find_ends-run.result.condition (let none = c.if-run-eq0.false in omega (arith, none, length-take-le c.find_ends-run.result.count c.find_ends-run.new.ends c.find_ends-run.ensures.within))
-    (leads_held c.args.tables.now c.args.bytes.now c.args.self.now.start (record { offset = 0; condition = c.args.self.now.cursor.place.condition; at_line_begin = c.args.self.now.cursor.place.at_line_begin; line = 1 })
-    (take c.find_ends-run.result.count c.find_ends-run.new.ends) c.find_ends-run.result.condition (c.find_ends-run.ensures.ends (let none = c.if-run-eq0.false in omega (arith, none))))
-    new.cursor (place_there c) (none_there c) (items_of_ends table at.cursor.place.offset at.cursor.place.line c.shift_ends.new.ends) c.args.items.now c.push_ends.new.self
-    (items_moved c.args.tables.now c.args.bytes.now c.args.self.now.start c.args.self.now.cursor c.args.self.now.walk.read c.args.self.now.walk.state.0 c.args.self.now.walk.found.last c.args.self.now.has_ended
-    c.requires.progress.parts (c.may_run.ensures.none_due c.if-not-may_run.false)
-    (record { offset = 0; condition = c.args.self.now.cursor.place.condition; at_line_begin = c.args.self.now.cursor.place.at_line_begin; line = 1 }) refl
-    (take c.find_ends-run.result.count c.find_ends-run.new.ends) c.find_ends-run.result.condition (let none = c.if-run-eq0.false in omega (arith, none, length-take-le c.find_ends-run.result.count c.find_ends-run.new.ends c.find_ends-run.ensures.within))
-    (leads_held c.args.tables.now c.args.bytes.now c.args.self.now.start (record { offset = 0; condition = c.args.self.now.cursor.place.condition; at_line_begin = c.args.self.now.cursor.place.at_line_begin; line = 1 })
-    (take c.find_ends-run.result.count c.find_ends-run.new.ends) c.find_ends-run.result.condition (c.find_ends-run.ensures.ends (let none = c.if-run-eq0.false in omega (arith, none))))
-    c.shift_ends.new.ends (c.shift_ends.ensures.moved c.if-not-shift_ends.false)) c.in_ok-offset.ensures.items))
+pub loop-self-preserved : goal.loop-self-preserved
+loop-self-preserved c = record {
+  progress = c.in_ok-run.ensures.progress;
+  memory = subst (λ (ended : Bool). IsOpenMemory c.args.tables.now c.args.bytes.now ended c.run.new.memory) c.loop-self.invariant.ended c.in_ok-run.ensures.memory;
+  ended = c.in_ok-run.ensures.gives.gives.end ∙ c.loop-self.invariant.ended;
+  gives = gives_to_both (stream_at c.args.tables.now c.args.bytes.now c.args.self.now) (stream_at c.args.tables.now c.args.bytes.now c.loop-self.self) (stream_at c.args.tables.now c.args.bytes.now c.run.new.self)
+      c.args.items.now c.loop-self.items c.run.new.items c.loop-self.invariant.gives c.in_ok-run.ensures.gives;
+  few = (let few = c.in_ok-run.ensures.few in let len = c.len-in-loop-self.ensures in let more = c.loop-self-test.true in let before = c.loop-self.invariant.few in omega (arith, few, len, before));
+}
