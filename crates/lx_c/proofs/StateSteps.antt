@@ -3,10 +3,10 @@ use Rattle.std.proofs.Common.{ℕ, zero, suc, ◌≡◌, ◌<◌, ◌+◌, ◌-�
 use Rattle.std.specs.Prelude.{slice_index, ◌==◌, ◌&&◌, not, nat_lt}
 use Rattle.std.proofs.lemmas.Bool.Decides.{nat_tests}
 use Rattle.lx_automaton.specs.Automata.{Machine, IsMachine, class_target, target_of}
-use Rattle.lx_c.specs.StateCode.{count_below, earlier_fit, earlier_target, first_fit, first_of, first_target, fits, goes_on, is_misfit, is_start, is_stray, leads, mark, marked_target, misfit_count, most_singles, other_target, single_count, step_count, step_of, stray_count}
+use Rattle.lx_c.specs.StateCode.{count_below, earlier_fit, first_fit, first_target, fits, fitting_target, is_misfit, is_start, leads, mark, marked_target, misfit_count, most_singles, other_target, single_count, step_count, step_of}
 use Rattle.lx_c.specs.StateSteps.{StepsAlike, by_marks, coded_step, first_of_two}
 
--- ---- the target of the set fits
+-- ---- a target that is tested by its marks fits
 
 last_false : (b : Bool) (k : ℕ) → k + (if b then 1 else 0) ≡ 0 → (b ≡ false) × (k ≡ 0)
 last_false true k e = absurd (omega (arith, e))
@@ -21,19 +21,6 @@ none_below test (suc n) i e l =
       | inr p ↦ none_below test n i parts.1 (omega (arith, p))
     ]
 
-chosen : (m : Machine) (s u t : ℕ) (b : Bool) → fits m s u ≡ b → (if b then Some u else None) ≡ Some t → fits m s t ≡ true
-chosen m s u t true h e = cc
-chosen m s u t false h e = absurd (cc)
-
-earlier : (m : Machine) (s t : ℕ) (best target : Option ℕ) → ((u : ℕ) → best ≡ Some u → fits m s u ≡ true) → earlier_fit m s best target ≡ Some t → fits m s t ≡ true
-earlier m s t (Some u) target h e = h t e
-earlier m s t None None h e = absurd (cc)
-earlier m s t None (Some u) h e = chosen m s u t (fits m s u) refl e
-
-found_fits : (m : Machine) (s n t : ℕ) → first_fit m s n ≡ Some t → fits m s t ≡ true
-found_fits m s zero t e = absurd (cc)
-found_fits m s (suc n) t e = earlier m s t (first_fit m s n) (class_target m s n) (λ u h. found_fits m s n u h) e
-
 both_true : (a b : Bool) → (a && b) ≡ true → (a ≡ true) × (b ≡ true)
 both_true true b e = (refl, e)
 both_true false b e = absurd (cc)
@@ -41,57 +28,51 @@ both_true false b e = absurd (cc)
 is_zero : (n : ℕ) → (n == 0) ≡ true → n ≡ 0
 is_zero n e = grind (arith, nat_tests)
 
-no_misfits : (m : Machine) (s t class : ℕ) → fits m s t ≡ true → class < m.width → is_misfit m s t class ≡ false
-unfolding misfit_count
-no_misfits m s t class e l =
-    let more = both_true (not (t == s)) (not (step_count m t (Some t) == 0) && misfit_count m s t == 0) e in
-    let last = both_true (not (step_count m t (Some t) == 0)) (misfit_count m s t == 0) more.1 in
-    none_below (is_misfit m s t) m.width class (is_zero (misfit_count m s t) last.1) l
+module _ (m : Machine) (s : ℕ) (comes_last : Bool) where
+  chosen : (u t : ℕ) (b : Bool) → fits m s comes_last u ≡ b → (if b then Some u else None) ≡ Some t → fits m s comes_last t ≡ true
+  chosen u t true h e = cc
+  chosen u t false h e = absurd (cc)
 
--- ---- the target of the first test goes on
+  earlier : (t : ℕ) (best target : Option ℕ) → ((u : ℕ) → best ≡ Some u → fits m s comes_last u ≡ true) → earlier_fit m s comes_last best target ≡ Some t
+      → fits m s comes_last t ≡ true
+  earlier t (Some u) target h e = h t e
+  earlier t None None h e = absurd (cc)
+  earlier t None (Some u) h e = chosen u t (fits m s comes_last u) refl e
 
-went_on : (m : Machine) (s u t : ℕ) (b : Bool) → goes_on m s u ≡ b → (if b then Some u else None) ≡ Some t → goes_on m s t ≡ true
-went_on m s u t true h e = cc
-went_on m s u t false h e = absurd (cc)
+  found_fits : (n t : ℕ) → first_fit m s comes_last n ≡ Some t → fits m s comes_last t ≡ true
+  found_fits zero t e = absurd (cc)
+  found_fits (suc n) t e = earlier t (first_fit m s comes_last n) (class_target m s n) (λ u h. found_fits n u h) e
 
-earlier_goes : (m : Machine) (s t : ℕ) (best target : Option ℕ) → ((u : ℕ) → best ≡ Some u → goes_on m s u ≡ true) → earlier_target m s best target ≡ Some t → goes_on m s t ≡ true
-earlier_goes m s t (Some u) target h e = h t e
-earlier_goes m s t None None h e = absurd (cc)
-earlier_goes m s t None (Some u) h e = went_on m s u t (goes_on m s u) refl e
+  no_misfits : (t class : ℕ) → fits m s comes_last t ≡ true → class < m.width → is_misfit m s comes_last t class ≡ false
+  unfolding misfit_count
+  no_misfits t class e l =
+      let more = both_true (not (t == s)) (not (step_count m t (Some t) == 0) && misfit_count m s comes_last t == 0) e in
+      let last = both_true (not (step_count m t (Some t) == 0)) (misfit_count m s comes_last t == 0) more.1 in
+      none_below (is_misfit m s comes_last t) m.width class (is_zero (misfit_count m s comes_last t) last.1) l
 
-found_goes : (m : Machine) (s n t : ℕ) → first_of m s n ≡ Some t → goes_on m s t ≡ true
-found_goes m s zero t e = absurd (cc)
-found_goes m s (suc n) t e = earlier_goes m s t (first_of m s n) (class_target m s n) (λ u h. found_goes m s n u h) e
-
-if_start : (m : Machine) (s t : ℕ) (start : Bool) → (if start then first_of m s m.width else None) ≡ Some t → goes_on m s t ≡ true
-if_start m s t true e = found_goes m s m.width t e
+if_start : (m : Machine) (s t : ℕ) (start : Bool) → (if start then fitting_target m s false else None) ≡ Some t → fits m s false t ≡ true
+if_start m s t true e = found_fits m s false m.width t e
 if_start m s t false e = absurd (cc)
 
-first_goes : (m : Machine) (s t : ℕ) → first_target m s ≡ Some t → goes_on m s t ≡ true
-first_goes m s t e = if_start m s t (is_start m s) e
-
-no_strays : (m : Machine) (s t class : ℕ) → goes_on m s t ≡ true → class < m.width → is_stray m s t class ≡ false
-no_strays m s t class e l =
-    let more = both_true (not (t == s)) (not (step_count m t (Some t) == 0) && stray_count m s t == 0) e in
-    let last = both_true (not (step_count m t (Some t) == 0)) (stray_count m s t == 0) more.1 in
-    none_below (is_stray m s t) m.width class (is_zero (stray_count m s t) last.1) l
+first_fits : (m : Machine) (s t : ℕ) → first_target m s ≡ Some t → fits m s false t ≡ true
+first_fits m s t e = if_start m s t (is_start m s) e
 
 -- ---- the marks test the steps to their target
 
 -- a byte on which the state has no step isn't marked
-not_marked : (looping : Bool) (step : Option ℕ) (t : ℕ) → step ≡ None → (if looping then not (leads None step) else leads (Some t) step) ≡ false
+not_marked : (looping : Bool) (step : Option ℕ) (t : ℕ) → step ≡ None → (if not looping then leads (Some t) step else not (leads None step)) ≡ false
     → ◌≡◌ {A = ℕ} (if looping then 1 else 0) 0
 not_marked true (Some u) t e h = absurd (cc)
 not_marked true None t e h = absurd (cc)
 not_marked false step t e h = refl
 
 -- a byte by which the state leads to the target is marked
-is_marked : (looping : Bool) (t : ℕ) → (if looping then not (leads None (Some t)) else leads (Some t) (Some t)) ≡ false → looping ≡ true
+is_marked : (looping : Bool) (t : ℕ) → (if not looping then leads (Some t) (Some t) else not (leads None (Some t))) ≡ false → looping ≡ true
 is_marked true t h = refl
 is_marked false t h = absurd (grind (arith, nat_tests))
 
 -- a byte on which a target goes on leads there
-stray_leads : (looping : Bool) (step : Option ℕ) (t : ℕ) → looping ≡ true → (looping && not (leads (Some t) step)) ≡ false → step ≡ Some t
+stray_leads : (looping : Bool) (step : Option ℕ) (t : ℕ) → looping ≡ true → (if not looping then false else not (leads (Some t) step)) ≡ false → step ≡ Some t
 stray_leads true None t e h = absurd (cc)
 stray_leads true (Some u) t e h =
     let one : u ≡ t = grind (arith, nat_tests) in
@@ -99,31 +80,31 @@ stray_leads true (Some u) t e h =
 stray_leads false step t e h = absurd (cc)
 
 module _ (m : Machine) (h : IsMachine m) (nul_ends : Bool) (s b : ℕ) (inside : (nul_ends && b == 0) ≡ false) (below : b < 256) where
-  fit_at : (t : ℕ) → fits m s t ≡ true → (if leads (Some t) (target_of m t b) then not (leads None (target_of m s b)) else leads (Some t) (target_of m s b)) ≡ false
-  fit_at t f = no_misfits m s t (slice_index m.classes b) f (h.below b below)
+  fit_at : (t : ℕ) → fits m s true t ≡ true → (if not (leads (Some t) (target_of m t b)) then leads (Some t) (target_of m s b) else not (leads None (target_of m s b))) ≡ false
+  fit_at t f = no_misfits m s true t (slice_index m.classes b) f (h.below b below)
 
-  stray_at : (t : ℕ) → goes_on m s t ≡ true → (leads (Some t) (target_of m t b) && not (leads (Some t) (target_of m s b))) ≡ false
-  stray_at t f = no_strays m s t (slice_index m.classes b) f (h.below b below)
+  stray_at : (t : ℕ) → fits m s false t ≡ true → (if not (leads (Some t) (target_of m t b)) then false else not (leads (Some t) (target_of m s b))) ≡ false
+  stray_at t f = no_misfits m s false t (slice_index m.classes b) f (h.below b below)
 
   mark_is : (t : ℕ) (looping : Bool) → leads (Some t) (target_of m t b) ≡ looping → mark nul_ends m t b ≡ (if looping then 1 else 0)
   mark_is t looping e = rw inside (rw e refl)
 
-  outside : (t : ℕ) → fits m s t ≡ true → target_of m s b ≡ None → mark nul_ends m t b ≡ 0
+  outside : (t : ℕ) → fits m s true t ≡ true → target_of m s b ≡ None → mark nul_ends m t b ≡ 0
   outside t f e = mark_is t (leads (Some t) (target_of m t b)) refl ∙ not_marked (leads (Some t) (target_of m t b)) (target_of m s b) t e (fit_at t f)
 
-  marked : (t : ℕ) → fits m s t ≡ true → target_of m s b ≡ Some t → mark nul_ends m t b ≡ 1
+  marked : (t : ℕ) → fits m s true t ≡ true → target_of m s b ≡ Some t → mark nul_ends m t b ≡ 1
   marked t f e = mark_is t true (is_marked (leads (Some t) (target_of m t b)) t (rw e at (fit_at t f)))
 
   -- ---- the test before all cases
 
-  first_by_step : (t : ℕ) (looping : Bool) (step second : Option ℕ) → goes_on m s t ≡ true → leads (Some t) (target_of m t b) ≡ looping → target_of m s b ≡ step
+  first_by_step : (t : ℕ) (looping : Bool) (step second : Option ℕ) → fits m s false t ≡ true → leads (Some t) (target_of m t b) ≡ looping → target_of m s b ≡ step
       → second ≡ step → first_of_two (by_marks nul_ends m (Some t) b) second ≡ step
   first_by_step t true step second f e k l =
       let to : target_of m s b ≡ Some t = stray_leads (leads (Some t) (target_of m t b)) (target_of m s b) t e (stray_at t f) in
       rw (mark_is t true e) (sym to ∙ k)
   first_by_step t false step second f e k l = rw (mark_is t false e) l
 
-  first_and_cases : (first step second : Option ℕ) → ((t : ℕ) → first ≡ Some t → goes_on m s t ≡ true) → target_of m s b ≡ step → second ≡ step
+  first_and_cases : (first step second : Option ℕ) → ((t : ℕ) → first ≡ Some t → fits m s false t ≡ true) → target_of m s b ≡ step → second ≡ step
       → first_of_two (by_marks nul_ends m first b) second ≡ step
   first_and_cases None step second f k l = l
   first_and_cases (Some t) step second f k l = first_by_step t (leads (Some t) (target_of m t b)) step second (f t refl) refl k l
@@ -134,15 +115,15 @@ module _ (m : Machine) (h : IsMachine m) (nul_ends : Bool) (s b : ℕ) (inside :
   cases second = first_of_two (by_marks nul_ends m (first_target m s) b) second
 
   by_cases : (step : Option ℕ) → target_of m s b ≡ step → other_target nul_ends m s None b ≡ step → cases (other_target nul_ends m s None b) ≡ step
-  by_cases step k l = first_and_cases (first_target m s) step (other_target nul_ends m s None b) (λ t e. first_goes m s t e) k l
+  by_cases step k l = first_and_cases (first_target m s) step (other_target nul_ends m s None b) (λ t e. first_fits m s t e) k l
 
-  without_step : (many : Bool) (marks : Option ℕ) → ((t : ℕ) → marks ≡ Some t → fits m s t ≡ true) → target_of m s b ≡ None
+  without_step : (many : Bool) (marks : Option ℕ) → ((t : ℕ) → marks ≡ Some t → fits m s true t ≡ true) → target_of m s b ≡ None
       → (if many then cases (other_target nul_ends m s None b) else first_of_two (other_target nul_ends m s marks b) (by_marks nul_ends m marks b)) ≡ None
   without_step true marks f e = by_cases None e (rw inside (rw e refl))
   without_step false None f e = rw inside (rw e refl)
   without_step false (Some t) f e = rw (outside t (f t refl) e) (rw inside (rw e refl))
 
-  other_step : (many : Bool) (marks : Option ℕ) (u : ℕ) → ((t : ℕ) → marks ≡ Some t → fits m s t ≡ true) → target_of m s b ≡ Some u → (u == s) ≡ false
+  other_step : (many : Bool) (marks : Option ℕ) (u : ℕ) → ((t : ℕ) → marks ≡ Some t → fits m s true t ≡ true) → target_of m s b ≡ Some u → (u == s) ≡ false
       → (if many then cases (other_target nul_ends m s None b) else first_of_two (other_target nul_ends m s marks b) (by_marks nul_ends m marks b)) ≡ Some u
   other_step true marks u f e n = by_cases (Some u) e (rw inside (rw e (rw n refl)))
   other_step false None u f e n = rw inside (rw e (rw n refl))
@@ -153,8 +134,8 @@ module _ (m : Machine) (h : IsMachine m) (nul_ends : Bool) (s b : ℕ) (inside :
         rw (marked t (f t refl) (subst (λ (j : ℕ). target_of m s b ≡ Some j) (sym one) e)) (rw inside (rw e (rw n (rw k (subst (λ (j : ℕ). Some t ≡ Some j) one refl)))))
     by_test false k = rw inside (rw e (rw n (rw k refl)))
 
-  fitting : (t : ℕ) → marked_target m s ≡ Some t → fits m s t ≡ true
-  fitting t k = found_fits m s m.width t k
+  fitting : (t : ℕ) → marked_target m s ≡ Some t → fits m s true t ≡ true
+  fitting t k = found_fits m s true m.width t k
 
   abbrev many : Bool
   many = nat_lt most_singles (single_count nul_ends m s (marked_target m s))

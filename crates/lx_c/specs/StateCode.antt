@@ -143,58 +143,44 @@ abbrev pub test_code : Options → Bool → Machine → ℕ → Option ℕ → L
 test_code o nul_ends m s None = []
 test_code o nul_ends m s (Some t) = numbered o TEST.now t (codes ")) { ") ++ edge_text o nul_ends m s t ++ codes " }\n"
 
--- ---- the step that is tested before all cases
+-- ---- the steps that are tested by the marks of their target
 
--- true if state t steps to itself on a class on which s doesn't lead there, and on how many classes
-abbrev pub is_stray : Machine → ℕ → ℕ → ℕ → Bool
-is_stray m s t class = leads (Some t) (class_target m t class) && not (leads (Some t) (class_target m s class))
+-- True if the marks of a state t are wrong on a class of bytes in state s. If the test by them comes last, s leads to t, and t doesn't step to
+-- itself; or t steps to itself, and s has no step. If it comes first, t steps to itself, and s doesn't lead to t.
+abbrev pub is_misfit : Machine → ℕ → Bool → ℕ → ℕ → Bool
+is_misfit m s comes_last t class =
+    if not (leads (Some t) (class_target m t class)) then comes_last && leads (Some t) (class_target m s class)
+    else not (leads (if comes_last then None else Some t) (class_target m s class))
 
-abbrev pub stray_count : Machine → ℕ → ℕ → ℕ
-stray_count m s t = count_below (is_stray m s t) m.width
+unfoldable pub misfit_count : Machine → ℕ → Bool → ℕ → ℕ
+misfit_count m s comes_last t = count_below (is_misfit m s comes_last t) m.width
 
--- true if a state steps to itself, and the first one leads there on all of those bytes
-abbrev pub goes_on : Machine → ℕ → ℕ → Bool
-goes_on m s t = not (t == s) && (not (step_count m t (Some t) == 0) && stray_count m s t == 0)
+-- true if the steps from s to t can be tested by the marks of t
+abbrev pub fits : Machine → ℕ → Bool → ℕ → Bool
+fits m s comes_last t = not (t == s) && (not (step_count m t (Some t) == 0) && misfit_count m s comes_last t == 0)
 
-abbrev pub earlier_target : Machine → ℕ → Option ℕ → Option ℕ → Option ℕ
-earlier_target m s (Some t) target = Some t
-earlier_target m s None None = None
-earlier_target m s None (Some t) = if goes_on m s t then Some t else None
+abbrev pub earlier_fit : Machine → ℕ → Bool → Option ℕ → Option ℕ → Option ℕ
+earlier_fit m s comes_last (Some t) target = Some t
+earlier_fit m s comes_last None None = None
+earlier_fit m s comes_last None (Some t) = if fits m s comes_last t then Some t else None
 
 -- the first such state to which the first n classes lead
-abbrev pub first_of : Machine → ℕ → ℕ → Option ℕ
-first_of m s zero = None
-first_of m s (suc n) = earlier_target m s (first_of m s n) (class_target m s n)
+abbrev pub first_fit : Machine → ℕ → Bool → ℕ → Option ℕ
+first_fit m s comes_last zero = None
+first_fit m s comes_last (suc n) = earlier_fit m s comes_last (first_fit m s comes_last n) (class_target m s n)
 
+abbrev pub fitting_target : Machine → ℕ → Bool → Option ℕ
+fitting_target m s comes_last = first_fit m s comes_last m.width
+
+-- the target that is tested before all cases
 abbrev pub first_target : Machine → ℕ → Option ℕ
-first_target m s = if is_start m s then first_of m s m.width else None
+first_target m s = if is_start m s then fitting_target m s false else None
+
+-- the target that is tested after all others
+abbrev pub marked_target : Machine → ℕ → Option ℕ
+marked_target m s = fitting_target m s true
 
 -- ---- the steps one by one
-
--- True if a class of bytes doesn't fit the marks of a state t: t steps to itself on it, and s has no step; or s leads to t, and t doesn't step to itself.
-abbrev pub is_misfit : Machine → ℕ → ℕ → ℕ → Bool
-is_misfit m s t class =
-    if leads (Some t) (class_target m t class) then not (leads None (class_target m s class)) else leads (Some t) (class_target m s class)
-
-unfoldable pub misfit_count : Machine → ℕ → ℕ → ℕ
-misfit_count m s t = count_below (is_misfit m s t) m.width
-
--- true if the steps from s to t can be tested by the marks of t, once all other steps of s are tested
-abbrev pub fits : Machine → ℕ → ℕ → Bool
-fits m s t = not (t == s) && (not (step_count m t (Some t) == 0) && misfit_count m s t == 0)
-
-abbrev pub earlier_fit : Machine → ℕ → Option ℕ → Option ℕ → Option ℕ
-earlier_fit m s (Some t) target = Some t
-earlier_fit m s None None = None
-earlier_fit m s None (Some t) = if fits m s t then Some t else None
-
--- the first such state to which the first n classes lead
-abbrev pub first_fit : Machine → ℕ → ℕ → Option ℕ
-first_fit m s zero = None
-first_fit m s (suc n) = earlier_fit m s (first_fit m s n) (class_target m s n)
-
-abbrev pub marked_target : Machine → ℕ → Option ℕ
-marked_target m s = first_fit m s m.width
 
 -- a target that is neither the state itself nor the marked one
 abbrev pub other_of : ℕ → Option ℕ → Option ℕ → Option ℕ

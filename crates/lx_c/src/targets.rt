@@ -7,43 +7,59 @@ ghost use Rattle.std.specs.Prelude.{IfSome, ℕ, ◌<◌, ◌≡◌, ◌≤◌};
 use crate::stepping::{CodedStates, class_target, is_start, leads, step_count, step_of};
 use lx_tables::Tables;
 
-// Returns the number of classes on which the target steps to itself, and the state not there.
-fn stray_count(tables: &Tables, state: u32, target: u32) -> u32
+// Returns true if the marks of a target are wrong on a class of bytes. The test by them comes after all others, or, if `comes_last` is false, first.
+fn is_misfit(tables: &Tables, state: u32, comes_last: bool, target: u32, class: u8) -> bool
     requires state { state < state_count tables.now.machine }
     requires target { target < state_count tables.now.machine }
-    ensures { result ≡ states.stray_count tables.now.machine state target }
+    requires class { class < tables.now.machine.width }
+    ensures { result ≡ states.is_misfit tables.now.machine state comes_last target class }
+{
+    let step = class_target(tables, state, class);
+    if !leads(Some(target), class_target(tables, target, class)) {
+        return comes_last && leads(Some(target), step);
+    }
+    if comes_last {
+        !leads(None, step)
+    } else {
+        !leads(Some(target), step)
+    }
+}
+
+fn misfit_count(tables: &Tables, state: u32, comes_last: bool, target: u32) -> u32
+    requires state { state < state_count tables.now.machine }
+    requires target { target < state_count tables.now.machine }
+    ensures { result ≡ states.misfit_count tables.now.machine state comes_last target }
 {
     let mut count: u32 = 0;
     for class in 0..tables.classes() {
-        let is_stray = leads(Some(target), class_target(tables, target, class as u8))
-            && !leads(Some(target), class_target(tables, state, class as u8));
-        count += u32::from(is_stray);
+        count += u32::from(is_misfit(tables, state, comes_last, target, class as u8));
     }
     count
 }
 
-// Returns true if the target steps to itself, and the state leads there on all of those bytes.
-fn goes_on(tables: &Tables, state: u32, target: u32) -> bool
+// Returns true if the steps to a target can be tested by its marks.
+fn fits(tables: &Tables, state: u32, comes_last: bool, target: u32) -> bool
     requires state { state < state_count tables.now.machine }
     requires target { target < state_count tables.now.machine }
-    ensures { result ≡ states.goes_on tables.now.machine state target }
+    ensures { result ≡ states.fits tables.now.machine state comes_last target }
 {
     target != state
         && (step_count(tables, target, Some(target)) != 0
-            && stray_count(tables, state, target) == 0)
+            && misfit_count(tables, state, comes_last, target) == 0)
 }
 
 // Returns the earlier one of such targets.
-fn earlier_target(
+fn earlier_fit(
     tables: &Tables,
     state: u32,
+    comes_last: bool,
     best: Option<u32>,
     target: Option<u32>,
 ) -> Option<u32>
     requires state { state < state_count tables.now.machine }
     requires best { IfSome best (λ t. t < state_count tables.now.machine) }
     requires target { IfSome target (λ t. t < state_count tables.now.machine) }
-    ensures earlier { result ≡ states.earlier_target tables.now.machine state best target }
+    ensures earlier { result ≡ states.earlier_fit tables.now.machine state comes_last best target }
     ensures below { IfSome result (λ t. t < state_count tables.now.machine) }
 {
     if best.is_some() {
@@ -52,11 +68,25 @@ fn earlier_target(
     let Some(other) = target else {
         return best;
     };
-    if goes_on(tables, state, other) {
+    if fits(tables, state, comes_last, other) {
         target
     } else {
         best
     }
+}
+
+// Returns the first one of such targets.
+fn fitting_target(tables: &Tables, state: u32, comes_last: bool) -> Option<u32>
+    requires { state < state_count tables.now.machine }
+    ensures target { result ≡ states.fitting_target tables.now.machine state comes_last }
+    ensures below { IfSome result (λ t. t < state_count tables.now.machine) }
+{
+    let mut best = None;
+    for class in 0..tables.classes() {
+        let target = class_target(tables, state, class as u8);
+        best = earlier_fit(tables, state, comes_last, best, target);
+    }
+    best
 }
 
 /// Returns the target of the step that is tested before all cases.
@@ -65,88 +95,20 @@ pub(crate) fn first_target(tables: &Tables, state: u32) -> Option<u32>
     ensures target { result ≡ states.first_target tables.now.machine state }
     ensures below { IfSome result (λ t. t < state_count tables.now.machine) }
 {
-    if !is_start(tables, state) {
-        return None;
-    }
-    let mut best = None;
-    for class in 0..tables.classes() {
-        let target = class_target(tables, state, class as u8);
-        best = earlier_target(tables, state, best, target);
-    }
-    best
-}
-
-// Returns true if a class of bytes doesn't fit the marks of a target.
-fn is_misfit(tables: &Tables, state: u32, target: u32, class: u8) -> bool
-    requires state { state < state_count tables.now.machine }
-    requires target { target < state_count tables.now.machine }
-    requires class { class < tables.now.machine.width }
-    ensures { result ≡ states.is_misfit tables.now.machine state target class }
-{
-    let step = class_target(tables, state, class);
-    if leads(Some(target), class_target(tables, target, class)) {
-        !leads(None, step)
+    if is_start(tables, state) {
+        fitting_target(tables, state, false)
     } else {
-        leads(Some(target), step)
+        None
     }
 }
 
-fn misfit_count(tables: &Tables, state: u32, target: u32) -> u32
-    requires state { state < state_count tables.now.machine }
-    requires target { target < state_count tables.now.machine }
-    ensures { result ≡ states.misfit_count tables.now.machine state target }
-{
-    let mut count: u32 = 0;
-    for class in 0..tables.classes() {
-        count += u32::from(is_misfit(tables, state, target, class as u8));
-    }
-    count
-}
-
-// Returns true if the steps to a target can be tested by its marks, once all others are tested.
-fn fits(tables: &Tables, state: u32, target: u32) -> bool
-    requires state { state < state_count tables.now.machine }
-    requires target { target < state_count tables.now.machine }
-    ensures { result ≡ states.fits tables.now.machine state target }
-{
-    target != state
-        && (step_count(tables, target, Some(target)) != 0
-            && misfit_count(tables, state, target) == 0)
-}
-
-// Returns the earlier one of such targets.
-fn earlier_fit(tables: &Tables, state: u32, best: Option<u32>, target: Option<u32>) -> Option<u32>
-    requires state { state < state_count tables.now.machine }
-    requires best { IfSome best (λ t. t < state_count tables.now.machine) }
-    requires target { IfSome target (λ t. t < state_count tables.now.machine) }
-    ensures earlier { result ≡ states.earlier_fit tables.now.machine state best target }
-    ensures below { IfSome result (λ t. t < state_count tables.now.machine) }
-{
-    if best.is_some() {
-        return best;
-    }
-    let Some(other) = target else {
-        return best;
-    };
-    if fits(tables, state, other) {
-        target
-    } else {
-        best
-    }
-}
-
-/// Returns the target whose marks test the steps to it.
+/// Returns the target of the steps that are tested by marks, after all others.
 pub(crate) fn marked_target(tables: &Tables, state: u32) -> Option<u32>
     requires { state < state_count tables.now.machine }
     ensures target { result ≡ states.marked_target tables.now.machine state }
     ensures below { IfSome result (λ t. t < state_count tables.now.machine) }
 {
-    let mut best = None;
-    for class in 0..tables.classes() {
-        let target = class_target(tables, state, class as u8);
-        best = earlier_fit(tables, state, best, target);
-    }
-    best
+    fitting_target(tables, state, true)
 }
 
 // Returns a target that is neither the state itself nor the marked one.

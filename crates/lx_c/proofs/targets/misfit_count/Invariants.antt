@@ -4,6 +4,6 @@ use Rattle.lx_c.proofs.targets.misfit_count.Given as goal
 
 abbrev pub invariant-loop-class : goal.invariant-loop-class
 invariant-loop-class l = record {
-  number : l.count ≡ count_below (is_misfit l.tables.machine l.state l.target) l.class;
+  number : l.count ≡ count_below (is_misfit l.tables.machine l.state l.comes_last l.target) l.class;
   small : l.count ≤ l.class;
 }

@@ -1,9 +1,0 @@
-use Rattle.std.proofs.Common.{◌≡◌, ◌≤◌}
-use Rattle.lx_c.specs.StateCode.{count_below, is_stray}
-use Rattle.lx_c.proofs.targets.stray_count.Given as goal
-
-abbrev pub invariant-loop-class : goal.invariant-loop-class
-invariant-loop-class l = record {
-  number : l.count ≡ count_below (is_stray l.tables.machine l.state l.target) l.class;
-  small : l.count ≤ l.class;
-}
