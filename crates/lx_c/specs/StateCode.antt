@@ -1,7 +1,7 @@
--- Code for each state. It reads the next byte, or goes through a loop as long as bytes lead back to the state. A state with few other steps then tests them one by one,
--- and at last the steps to a state that goes on by the same bytes, as keywords do with names. Any other state has a case for each target; one in which matches begin first
--- tests the step to a state that goes on by the same bytes, as blanks do. If no step is left, the code stops by the rule that the state accepts. In a text that ends with a
--- NUL, byte 0 leads nowhere.
+-- Code for each state. It reads the next byte, or goes through a loop as long as bytes lead back to the state. A state with few other steps then
+-- tests them one by one, and at last the steps to a state that goes on by the same bytes, as keywords do with names. Any other state has a case for
+-- each target; one in which matches begin first tests the step to a state that goes on by the same bytes, as blanks do. If no step is left, the code
+-- stops by the rule that the state accepts. In a text that ends with a NUL, byte 0 leads nowhere.
 use Rattle.std.specs.Prelude.{ℕ, zero, suc, ◌+◌, ◌-◌, ◌*◌, ◌/◌, ◌%◌, ◌==◌, ◌&&◌, ◌||◌, nat_eq, nat_le, nat_lt, not, Bool, true, false, if◌then◌else◌, List, [], ◌∷◌, ◌++◌, Option, Some, None, codes}
 use Rattle.std.specs.List.{flat_map, list_any, range_with_len}
 use Rattle.std.specs.Option.{option_eq}
@@ -105,8 +105,8 @@ range_text o nul_ends m s staying b = low_bound o nul_ends m s staying b ++ high
 abbrev pub ranges_text : Options → Bool → Machine → ℕ → Bool → List ℕ
 ranges_text o nul_ends m s staying = flat_map (range_text o nul_ends m s staying) (range_with_len 0 256) ++ codes "0"
 
--- The loop of a state, up to the rule that it accepts: by comparisons if the bytes on which it steps to itself are at most two ranges, or all others are, and else by
--- the marks.
+-- The loop of a state, up to the rule that it accepts: by comparisons if the bytes on which it steps to itself are at most two ranges, or all others
+-- are, and else by the marks.
 abbrev pub loop_head : Options → Bool → Machine → ℕ → List ℕ
 loop_head o nul_ends m s =
     if nat_lt (range_count nul_ends m s true) 3 then numbered o RANGES.now s (codes ", ") ++ ranges_text o nul_ends m s true
@@ -236,11 +236,12 @@ label nul_ends m s group b = if in_group nul_ends m s group b then label_text (g
 abbrev pub labels : Bool → Machine → ℕ → Option ℕ → List ℕ
 labels nul_ends m s group = flat_map (label nul_ends m s group) (range_with_len 0 256)
 
--- the state to which more than half of all bytes lead, byte 255 among them
+-- a target, if more than half of all bytes lead there
 abbrev pub most_of : Bool → Machine → ℕ → Option ℕ → Option ℕ
 most_of nul_ends m s None = None
 most_of nul_ends m s (Some t) = if nat_lt 128 (group_count nul_ends m s (Some t) 256) then Some t else None
 
+-- the state to which more than half of all bytes lead, byte 255 among them
 abbrev pub main_target : Bool → Machine → ℕ → Option ℕ
 main_target nul_ends m s = most_of nul_ends m s (other_target nul_ends m s None 255)
 
@@ -291,7 +292,7 @@ end_code o template m s = numbered o template s (codes ", ") ++ number_then (rul
 abbrev pub steps_code : Options → Bool → Machine → ℕ → List ℕ
 steps_code o nul_ends m s = loop_code o nul_ends m s ++ tests_code o nul_ends m s (marked_target m s) ++ end_code o STOP.now m s
 
--- a state without steps doesn't look at the next byte
+-- the code of a state after its label: its steps, or, if it has none, the end of the walk
 abbrev pub walk_code : Options → Bool → Machine → ℕ → List ℕ
 walk_code o nul_ends m s = if step_count m s None == 0 then end_code o LAST.now m s else steps_code o nul_ends m s
 

@@ -361,7 +361,7 @@ fn push_steps(text: &mut Vec<u8>, code: CodedStates<'_>, state: u32) -> PushResu
     push_end(text, code, STOP, state)
 }
 
-// Appends what a state does. One without steps doesn't look at the next byte.
+// Appends the code of a state after its label: its steps, or, if it has none, the end of the walk.
 fn push_walk(text: &mut Vec<u8>, code: CodedStates<'_>, state: u32) -> PushResult
     requires { state < state_count code.tables.now.machine }
     ensures { OnOk result (text.new.items ≡ text.old.items
