@@ -11,7 +11,7 @@ use Rattle.lx_c.specs.Options.{Options}
 use Rattle.lx_c.specs.Rows.{entry_text}
 use Rattle.lx_c.specs.Words.{rule_word}
 use Rattle.lx_c.specs.Templates.{filled, number_then, numbered}
-use Rattle.lx_c.specs.declared.state_templates.TheConstants.{MARKS, LABEL, LOOP, RANGES, LOW, HIGH, READ, NEXT, SWITCH, TEST, SINGLE, KEEP, NEWLINE, GO, STOP, LAST}
+use Rattle.lx_c.specs.declared.state_templates.TheConstants.{MARKS, LABEL, LOOP, RANGES, LOW, HIGH, READ, NEXT, CASE, SWITCH, TEST, SINGLE, KEEP, NEWLINE, GO, STOP, LAST}
 
 -- ---- the steps of a state
 
@@ -225,7 +225,7 @@ group_count nul_ends m s group n = count_below (in_group nul_ends m s group) n
 
 -- the space before a label of which this number of labels come before; 16 bytes have a line
 abbrev pub label_begin : ℕ → ℕ → List ℕ
-label_begin before b = if before == 0 then codes "        case " else if b % 16 == 0 then codes "\n        case " else codes " case "
+label_begin before b = if before == 0 then CASE.now else if b % 16 == 0 then codes "\n        case " else codes " case "
 
 abbrev pub label_text : ℕ → ℕ → List ℕ
 label_text before b = label_begin before b ++ byte_text b ++ codes ":"

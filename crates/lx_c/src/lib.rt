@@ -17,7 +17,7 @@ pub mod pushing;
 mod row_numbers;
 mod rows;
 mod state_code;
-mod state_templates;
+pub mod state_templates;
 pub mod stepping;
 mod targets;
 mod templates;

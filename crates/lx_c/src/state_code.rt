@@ -8,7 +8,7 @@ use crate::loops::push_loop;
 use crate::options::Options;
 use crate::pushing::{PushResult, push, push_filled, push_number, push_number_then, push_numbered};
 use crate::row_numbers::rule_word;
-use crate::state_templates::{GO, KEEP, LABEL, LAST, NEWLINE, SINGLE, STOP, SWITCH, TEST};
+use crate::state_templates::{CASE, GO, KEEP, LABEL, LAST, NEWLINE, SINGLE, STOP, SWITCH, TEST};
 use crate::stepping::{CodedStates, leads, step_count, target_of};
 use crate::targets::{
     first_target, group_count, in_group, main_target, marked_target, other_target, single_count,
@@ -151,7 +151,7 @@ fn push_label_begin(text: &mut Vec<u8>, before: u32, byte: u16) -> PushResult
     ensures { OnOk result (text.new.items ≡ text.old.items ++ states.label_begin before byte) }
 {
     if before == 0 {
-        return push(text, b"        case ");
+        return push(text, CASE);
     }
     if byte % 16 == 0 {
         return push(text, b"\n        case ");

@@ -26,7 +26,7 @@ pub(crate) const READ: &[u8] = b"        @__READ(";
 pub(crate) const NEXT: &[u8] = b"        @__NEXT\n";
 
 /// A label of a case; its byte or number comes after it.
-pub(crate) const CASE: &[u8] = b"        case ";
+pub const CASE: &[u8] = b"        case ";
 
 /// The beginning of cases.
 pub(crate) const SWITCH: &[u8] = b"        switch (@_byte) {\n";

@@ -9,7 +9,8 @@ use Rattle.lx_c.specs.Words.{rule_word}
 use Rattle.lx_lex.specs.Arrays.{HasArrays, arrays_text, entry_text, head_text}
 use Rattle.lx_lex.specs.declared.forms.ScannerForm.{ScannerForm}
 use Rattle.lx_lex.specs.declared.forms.ScannerForm.TheVariants.{Rows, States}
-use Rattle.lx_lex.specs.declared.skeleton_states.TheConstants.{CASE, GOTO_STATE, RESUME}
+use Rattle.lx_c.specs.declared.state_templates.TheConstants.{CASE}
+use Rattle.lx_lex.specs.declared.skeleton_states.TheConstants.{GOTO_STATE, RESUME}
 use Rattle.lx_tables.specs.Model.{Table}
 
 -- ---- the arrays

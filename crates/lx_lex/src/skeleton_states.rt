@@ -161,9 +161,6 @@ pub(crate) const STATE_BEGIN: &[u8] =
         default:
 "#;
 
-/// A label of a case; its number comes after it.
-pub(crate) const CASE: &[u8] = b"        case ";
-
 /// The jump of a case to a state, whose number comes after it.
 pub(crate) const GOTO_STATE: &[u8] = b": goto yy__s";
 

@@ -6,8 +6,9 @@ ghost use Rattle.lx_c.specs.Options.{yy_options};
 ghost use Rattle.lx_lex.specs.Arrays.{head_text};
 ghost use Rattle.lx_lex.specs.StateCode as states;
 
-use crate::skeleton_states::{CASE, GOTO_STATE, RESUME};
+use crate::skeleton_states::{GOTO_STATE, RESUME};
 use lx_c::pushing::{PushResult, push, push_number_then, push_type};
+use lx_c::state_templates::CASE;
 use lx_c::stepping::{CodedStates, target_of};
 use lx_c::{Options, push_marks, push_state_codes, rule_word};
 use lx_tables::Tables;
