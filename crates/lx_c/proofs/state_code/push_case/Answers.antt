@@ -1,8 +1,7 @@
 use Rattle.std.proofs.Common.{◌≡◌, None, Some, append-nil, false, nat_eq, rules, sym}
 use Rattle.std.specs.Prelude.{◌==◌}
 use Rattle.std.specs.Option.{option_eq}
-use Rattle.lx_c.specs.StateCode.{group_code, group_count, other_target}
-use Rattle.lx_c.proofs.Texts.{when_false, when_true}
+use Rattle.lx_c.specs.StateCode.{group_count, other_target}
 use Rattle.lx_c.proofs.state_code.push_case.Goals as goal
 
 pub returns-else-group_count-eq0 : goal.returns-else-group_count-eq0
