@@ -292,9 +292,14 @@ end_code o template m s = numbered o template s (codes ", ") ++ number_then (rul
 abbrev pub steps_code : Options → Bool → Machine → ℕ → List ℕ
 steps_code o nul_ends m s = loop_code o nul_ends m s ++ tests_code o nul_ends m s (marked_target m s) ++ end_code o STOP.now m s
 
--- the code of a state after its label: its steps, or, if it has none, the end of the walk
+-- true for a state without steps that accepts a rule
+abbrev pub is_last : Machine → ℕ → Bool
+is_last m s = step_count m s None == 0 && not (rule_word (accepted_by m s) == 0)
+
+-- The code of a state after its label. In a last state it doesn't look at the next byte. In one without steps that accepts nothing it does, as a
+-- condition without rules begins in such a state: the text may be at its end.
 abbrev pub walk_code : Options → Bool → Machine → ℕ → List ℕ
-walk_code o nul_ends m s = if step_count m s None == 0 then end_code o LAST.now m s else steps_code o nul_ends m s
+walk_code o nul_ends m s = if is_last m s then end_code o LAST.now m s else steps_code o nul_ends m s
 
 abbrev pub state_code : Options → Bool → Machine → ℕ → List ℕ
 state_code o nul_ends m s = numbered o LABEL.now s (codes ":\n") ++ walk_code o nul_ends m s

@@ -13,6 +13,7 @@ use crate::stepping::{CodedStates, leads, step_count, target_of};
 use crate::targets::{
     first_target, group_count, in_group, main_target, marked_target, other_target, single_count,
 };
+use lx_tables::Tables;
 
 /// The greatest number of bytes that are tested one by one.
 const MOST_SINGLES: u32 = 4;
@@ -361,13 +362,21 @@ fn push_steps(text: &mut Vec<u8>, code: CodedStates<'_>, state: u32) -> PushResu
     push_end(text, code, STOP, state)
 }
 
-// Appends the code of a state after its label: its steps, or, if it has none, the end of the walk.
+// Returns true for a state without steps that accepts a rule.
+fn is_last(tables: &Tables, state: u32) -> bool
+    requires { state < state_count tables.now.machine }
+    ensures { result ≡ states.is_last tables.now.machine state }
+{
+    step_count(tables, state, None) == 0 && rule_word(tables, state) != 0
+}
+
+// Appends the code of a state after its label. In a last state it doesn't look at the next byte.
 fn push_walk(text: &mut Vec<u8>, code: CodedStates<'_>, state: u32) -> PushResult
     requires { state < state_count code.tables.now.machine }
     ensures { OnOk result (text.new.items ≡ text.old.items
         ++ states.walk_code code.entry.options.now code.entry.nul_ends code.entry.tables.now.machine state) }
 {
-    if step_count(code.tables, state, None) == 0 {
+    if is_last(code.tables, state) {
         return push_end(text, code, LAST, state);
     }
     push_steps(text, code, state)

@@ -49,5 +49,5 @@ pub(crate) const GO: &[u8] = b"@__GO(";
 /// The end of a walk where no step is left; the numbers of the state and of its rule plus 1, or 0, come after it.
 pub(crate) const STOP: &[u8] = b"        @__STOP(";
 
-/// The same in a state without steps.
+/// The same in a state without steps that accepts a rule.
 pub(crate) const LAST: &[u8] = b"        @__LAST(";

@@ -51,7 +51,7 @@ pub(crate) const STATE_MACROS: &[u8] =
 
 /* No step is left. At byte 0 the text may end. A state without steps that accepts a rule doesn't look at the next byte. */
 #define yy__STOP(state, rule) { if (yy_byte == '\0') { yy_current_state = state; goto yy_at_nul; } goto yy_a##rule; }
-#define yy__LAST(state, rule) { if (rule == 0) { yy__NEXT yy__STOP(state, rule) } goto yy_a##rule; }
+#define yy__LAST(state, rule) goto yy_a##rule;
 
 /* Makes yytext the match. */
 #define YY_TAKE \
