@@ -197,13 +197,19 @@ is_single nul_ends m s marked b = leads None (other_target nul_ends m s marked b
 unfoldable pub single_count : Bool → Machine → ℕ → Option ℕ → ℕ
 single_count nul_ends m s marked = count_below (is_single nul_ends m s marked) 256
 
--- true for bytes that C has as a character between quotes
+-- true for the quote and the backslash, before which C wants a backslash
+abbrev pub is_escaped : ℕ → Bool
+is_escaped b = b == 39 || b == 92
+
+-- true for the bytes of printable characters
 abbrev pub is_printable : ℕ → Bool
-is_printable b = nat_le 32 b && (nat_le b 126 && not (b == 39 || b == 92))
+is_printable b = nat_le 32 b && nat_le b 126
 
 -- a byte in C: the newline, a character, or a number
 abbrev pub byte_text : ℕ → List ℕ
-byte_text b = if b == 10 then codes "'\\n'" else if is_printable b then codes "'" ++ b ∷ codes "'" else number b
+byte_text b =
+    if b == 10 then codes "'\\n'" else if is_escaped b then codes "'\\" ++ b ∷ codes "'" else if is_printable b then codes "'" ++ b ∷ codes "'"
+    else number b
 
 abbrev pub single_code : Options → Bool → Machine → ℕ → ℕ → Option ℕ → List ℕ
 single_code o nul_ends m s b None = []

@@ -84,11 +84,18 @@ fn push_test(
     }
 }
 
-// Returns true for bytes that C has as a character between quotes.
+// Returns true for the quote and the backslash, before which C wants a backslash.
+fn is_escaped(byte: u16) -> bool
+    ensures { result ≡ states.is_escaped byte }
+{
+    byte == 39 || byte == 92
+}
+
+// Returns true for the bytes of printable characters.
 fn is_printable(byte: u16) -> bool
     ensures { result ≡ states.is_printable byte }
 {
-    32 <= byte && (byte <= 126 && !(byte == 39 || byte == 92))
+    32 <= byte && byte <= 126
 }
 
 // Appends a byte as C has it: the newline, a character, or a number.
@@ -98,6 +105,9 @@ fn push_byte(text: &mut Vec<u8>, byte: u16) -> PushResult
 {
     if byte == 10 {
         return push(text, b"'\\n'");
+    }
+    if is_escaped(byte) {
+        return push(text, &[b'\'', b'\\', byte as u8, b'\'']);
     }
     if is_printable(byte) {
         return push(text, &[b'\'', byte as u8, b'\'']);
