@@ -1,5 +1,5 @@
 -- A line of its parts, and lines of items.
-use Rattle.std.proofs.Common.{◌≡◌, ℕ, ◌+◌, ◌-◌, List, [], ◌∷◌, ◌++◌, length, take, drop, take-add, length-drop, refl, sym, ◌∙◌, ap, arith, append_assoc}
+use Rattle.std.proofs.Common.{◌≡◌, ℕ, ◌+◌, ◌-◌, List, [], ◌∷◌, ◌++◌, length, take, drop, take-add, length-drop, sym, ◌∙◌, ap, arith, append_assoc}
 use Rattle.std.proofs.lemmas.Grind.{flat_map-append}
 use Rattle.std.proofs.lemmas.List.{take_all}
 use Rattle.std.specs.Prelude.{Bool, true, MatchOption, None, Option, Some, codes, decimal}
@@ -8,63 +8,39 @@ use Rattle.lx_rules.specs.declared.rule.Kind.{Kind}
 use Rattle.lx_scan.specs.declared.item.Item.{Item}
 use Rattle.lx_scan.specs.declared.item.Item.TheVariants.{Token, Echo}
 use Rattle.lx_scan.specs.ItemParts.{kind_of_item, line_of as line_number, start_of, len_of}
-use Rattle.lx_piece.specs.Plans.{Planned, bytes_of}
+use Rattle.lx_piece.specs.Plans.{Planned}
 use Rattle.lx_line.specs.Escapes.{escaped}
-use Rattle.lx_line.specs.Fields.{rest_by, rest_of, rest_with}
+use Rattle.lx_line.specs.Fields.{rest_with}
 use Rattle.lx_line.specs.Prefixes.{prefix_text}
-use Rattle.lx_line.specs.Lines.{line_of, line_with, name_text}
+use Rattle.lx_line.specs.Lines.{line_with, name_text}
 use Rattle.lx_line.specs.Placed.{Placed}
 use Rattle.lx_line.proofs.Places.{Placed-then}
 
-text_same : (bytes : List ℕ) (start len : ℕ) → take len (drop start bytes) ≡ take (start + len - start) (drop start bytes)
-text_same bytes start len = ap (λ (n : ℕ). take n (drop start bytes)) (let e : len ≡ start + len - start = omega arith in e)
-
-joined : (f l s n t u : List ℕ) → t ≡ u → f ++ ((l ++ 32 ∷ []) ++ ((s ++ 32 ∷ []) ++ ((n ++ 32 ∷ []) ++ (flat_map escaped t ++ 10 ∷ [])))) ≡ (((((((f ++ l) ++ 32 ∷ []) ++ s) ++ 32 ∷ []) ++ n) ++ 32 ∷ []) ++ flat_map escaped u) ++ 10 ∷ []
-joined f l s n t u e = rw e (simp append_assoc)
+joined : (f l s n t : List ℕ) → f ++ ((l ++ 32 ∷ []) ++ ((s ++ 32 ∷ []) ++ ((n ++ 32 ∷ []) ++ (flat_map escaped t ++ 10 ∷ [])))) ≡ (((((((f ++ l) ++ 32 ∷ []) ++ s) ++ 32 ∷ []) ++ n) ++ 32 ∷ []) ++ flat_map escaped t) ++ 10 ∷ []
+joined f l s n t = simp append_assoc
 
 -- class and kind in one, and field by field
 fields_of : (f c k : List ℕ) → (f ++ 32 ∷ []) ++ (((c ++ 32 ∷ []) ++ k) ++ 32 ∷ []) ≡ ((((f ++ 32 ∷ []) ++ c) ++ 32 ∷ []) ++ k) ++ 32 ∷ []
 fields_of f c k = simp append_assoc
 
-pub prefix_and_rest_with : (plan : Planned) (file : ℕ) (item : Item) (text : List ℕ) → prefix_text plan file (kind_of_item item) ++ rest_with true (line_number item) (start_of item) (len_of item) text ≡ line_with plan.table file item text
-prefix_and_rest_with plan file (Token line start len kind) text =
+pub prefix_and_rest : (plan : Planned) (file : ℕ) (item : Item) (text : List ℕ) → prefix_text plan file (kind_of_item item) ++ rest_with true (line_number item) (start_of item) (len_of item) text ≡ line_with plan.table file item text
+prefix_and_rest plan file (Token line start len kind) text =
     ap (λ (prefix : List ℕ). prefix ++ rest_with true line start len text) (fields_of (decimal file) (codes "T") (name_text plan kind))
-    ∙ joined (((((decimal file ++ 32 ∷ []) ++ codes "T") ++ 32 ∷ []) ++ name_text plan kind) ++ 32 ∷ []) (decimal line) (decimal start) (decimal len) text text refl
-prefix_and_rest_with plan file (Echo line start len) text =
+    ∙ joined (((((decimal file ++ 32 ∷ []) ++ codes "T") ++ 32 ∷ []) ++ name_text plan kind) ++ 32 ∷ []) (decimal line) (decimal start) (decimal len) text
+prefix_and_rest plan file (Echo line start len) text =
     ap (λ (prefix : List ℕ). prefix ++ rest_with true line start len text) (fields_of (decimal file) (codes "E") (codes "-"))
-    ∙ joined (((((decimal file ++ 32 ∷ []) ++ codes "E") ++ 32 ∷ []) ++ codes "-") ++ 32 ∷ []) (decimal line) (decimal start) (decimal len) text text refl
+    ∙ joined (((((decimal file ++ 32 ∷ []) ++ codes "E") ++ 32 ∷ []) ++ codes "-") ++ 32 ∷ []) (decimal line) (decimal start) (decimal len) text
 
-pub line_placed_with : {a b c : List ℕ} {at mid end : ℕ} (prefix : Option Kind → List ℕ) (printed : Bool) (item : Item) (kind : Option Kind) (line start len : ℕ) (text : List ℕ) → Placed a b at (prefix kind) mid → Placed b c mid (rest_with printed line start len text) end → kind ≡ kind_of_item item → line ≡ line_number item → start ≡ start_of item → len ≡ len_of item →
-    take end c ≡ take at a ++ (prefix (kind_of_item item) ++ rest_with printed (line_number item) (start_of item) (len_of item) text)
-line_placed_with {a} {b} {c} {at} {mid} {end} prefix printed item kind line start len text p q k l s n =
+pub line_placed : {a b c : List ℕ} {at mid end : ℕ} (prefix : Option Kind → List ℕ) (printed : Bool) (item : Item) (kind : Option Kind) (line start len : ℕ) (bytes : List ℕ) (from : ℕ) → Placed a b at (prefix kind) mid → Placed b c mid (rest_with printed line start len (take len (drop from bytes))) end → kind ≡ kind_of_item item → line ≡ line_number item → start ≡ start_of item → len ≡ len_of item →
+    take end c ≡ take at a ++ (prefix (kind_of_item item) ++ rest_with printed (line_number item) (start_of item) (len_of item) (take (len_of item) (drop from bytes)))
+line_placed {a} {b} {c} {at} {mid} {end} prefix printed item kind line start len bytes from p q k l s n =
     let own = prefix (kind_of_item item) in
-    let rest = rest_with printed in
+    let rest = λ (line start len : ℕ). rest_with printed line start len (take len (drop from bytes)) in
     (Placed-then p q).bytes
-    ∙ ap (λ (k : Option Kind). take at a ++ (prefix k ++ rest line start len text)) k
-    ∙ ap (λ (k : ℕ). take at a ++ (own ++ rest k start len text)) l
-    ∙ ap (λ (k : ℕ). take at a ++ (own ++ rest (line_number item) k len text)) s
-    ∙ ap (λ (k : ℕ). take at a ++ (own ++ rest (line_number item) (start_of item) k text)) n
-
-pub prefix_and_rest : (plan : Planned) (file : ℕ) (item : Item) → prefix_text plan file (kind_of_item item) ++ rest_of true plan file item ≡ line_of plan file item
-prefix_and_rest plan file (Token line start len kind) =
-    let bytes = bytes_of plan file in
-    ap (λ (prefix : List ℕ). prefix ++ rest_of true plan file (Token line start len kind)) (fields_of (decimal file) (codes "T") (name_text plan kind))
-    ∙ joined (((((decimal file ++ 32 ∷ []) ++ codes "T") ++ 32 ∷ []) ++ name_text plan kind) ++ 32 ∷ []) (decimal line) (decimal start) (decimal len) (take len (drop start bytes)) (take (start + len - start) (drop start bytes)) (text_same bytes start len)
-prefix_and_rest plan file (Echo line start len) =
-    let bytes = bytes_of plan file in
-    ap (λ (prefix : List ℕ). prefix ++ rest_of true plan file (Echo line start len)) (fields_of (decimal file) (codes "E") (codes "-"))
-    ∙ joined (((((decimal file ++ 32 ∷ []) ++ codes "E") ++ 32 ∷ []) ++ codes "-") ++ 32 ∷ []) (decimal line) (decimal start) (decimal len) (take len (drop start bytes)) (take (start + len - start) (drop start bytes)) (text_same bytes start len)
-
-pub line_placed : {a b c : List ℕ} {at mid end : ℕ} (prefix : Option Kind → List ℕ) (printed : Bool) (plan : Planned) (file : ℕ) (item : Item) (kind : Option Kind) (line start len : ℕ) (bytes : List ℕ) → Placed a b at (prefix kind) mid → Placed b c mid (rest_by printed line start len bytes) end → kind ≡ kind_of_item item → line ≡ line_number item → start ≡ start_of item → len ≡ len_of item → bytes ≡ bytes_of plan file → take end c ≡ take at a ++ (prefix (kind_of_item item) ++ rest_of printed plan file item)
-line_placed {a} {b} {c} {at} {mid} {end} prefix printed plan file item kind line start len bytes p q k l s n t =
-    let own = prefix (kind_of_item item) in
-    let rest = rest_by printed in
-    (Placed-then p q).bytes
-    ∙ ap (λ (k : Option Kind). take at a ++ (prefix k ++ rest line start len bytes)) k
-    ∙ ap (λ (k : ℕ). take at a ++ (own ++ rest k start len bytes)) l
-    ∙ ap (λ (k : ℕ). take at a ++ (own ++ rest (line_number item) k len bytes)) s
-    ∙ ap (λ (k : ℕ). take at a ++ (own ++ rest (line_number item) (start_of item) k bytes)) n
-    ∙ ap (λ (bs : List ℕ). take at a ++ (own ++ rest (line_number item) (start_of item) (len_of item) bs)) t
+    ∙ ap (λ (k : Option Kind). take at a ++ (prefix k ++ rest line start len)) k
+    ∙ ap (λ (k : ℕ). take at a ++ (own ++ rest k start len)) l
+    ∙ ap (λ (k : ℕ). take at a ++ (own ++ rest (line_number item) k len)) s
+    ∙ ap (λ (k : ℕ). take at a ++ (own ++ rest (line_number item) (start_of item) k)) n
 
 -- a line is another text, unless it wasn't placed
 pub placed_as : (before kept new xs ys : List ℕ) (r : Option ℕ) → xs ≡ ys → MatchOption r (new ≡ kept) (λ end. take end new ≡ before ++ xs) → MatchOption r (new ≡ kept) (λ end. take end new ≡ before ++ ys)

@@ -1,6 +1,5 @@
 -- The bytes of a text that a line shows unescaped.
 use Rattle.std.proofs.Common.{◌≡◌, ℕ, zero, suc, ◌+◌, ◌-◌, ◌%◌, ◌^◌, ◌<◌, ◌≤◌, Bool, true, false, not, cond, ◌||◌, eqb, ltb, List, [], ◌∷◌, ◌++◌, length, take, drop, map, replicate, refl, sym, append_assoc, ap, ◌∙◌, arith, take-take, append-nil, get_or, length-append, length-take-le, lit≤}
-use Rattle.std.specs.Prelude.{slice_index}
 use Rattle.std.specs.List.{flat_map, prefix_len}
 use Rattle.std.specs.Int.Bits.{bit_or}
 use Rattle.std.proofs.Math.Nat.{pow-succ'}
@@ -158,23 +157,3 @@ pushed_more escape before mid new text done part p q =
     ∙ ap (λ (k : ℕ). (before ++ flat_map escape (take done text)) ++ flat_map escape (take k (drop done text))) count
     ∙ append_assoc before (flat_map escape (take done text)) (flat_map escape (take part (drop done text)))
     ∙ ap (λ (bs : List ℕ). before ++ bs) (sym (flat_map-append escape (take done text) (take part (drop done text))) ∙ ap (flat_map escape) (sym (take-add done part text)))
-
--- a text whose first bytes are each shown as they are
-plain_each : (shown : ℕ → List ℕ) (text : List ℕ) (n : ℕ) → ((k : ℕ) → k < n → shown (slice_index text k) ≡ slice_index text k ∷ []) → n ≤ length text → flat_map shown (take n text) ≡ take n text
-plain_each shown text zero each long = refl
-plain_each shown [] (suc n) each long = refl
-plain_each shown (x ∷ xs) (suc n) each long =
-    ap (λ (bytes : List ℕ). bytes ++ flat_map shown (take n xs)) (each 0 (omega arith)) ∙ ap (λ (bytes : List ℕ). x ∷ bytes) (plain_each shown xs n (λ k l. each (suc k) (omega (arith, l))) (omega (arith, long)))
-
-one_of_4 : (P : ℕ → Type 0) → P 0 → P 1 → P 2 → P 3 → (k : ℕ) → k < 4 → P k
-one_of_4 P a b c d zero l = a
-one_of_4 P a b c d (suc zero) l = b
-one_of_4 P a b c d (suc (suc zero)) l = c
-one_of_4 P a b c d (suc (suc (suc zero))) l = d
-one_of_4 P a b c d (suc (suc (suc (suc k)))) l = absurd (omega (arith, l))
-
--- a text whose first 4 bytes are
-pub plain_4 : (shown : ℕ → List ℕ) (text : List ℕ) → 4 ≤ length text → shown (slice_index text 0) ≡ slice_index text 0 ∷ [] → shown (slice_index text 1) ≡ slice_index text 1 ∷ [] →
-    shown (slice_index text 2) ≡ slice_index text 2 ∷ [] → shown (slice_index text 3) ≡ slice_index text 3 ∷ [] → (n : ℕ) → n ≤ 4 → flat_map shown (take n text) ≡ take n text
-plain_4 shown text long a b c d n few =
-    plain_each shown text n (λ k l. one_of_4 (λ (k : ℕ). shown (slice_index text k) ≡ slice_index text k ∷ []) a b c d k (omega (arith, few, l))) (omega (arith, long, few))

@@ -1,9 +1,6 @@
 -- The fields of a line after its prefix.
-use Rattle.std.specs.Prelude.{ℕ, Bool, if◌then◌else◌, List, ◌++◌, codes, decimal, drop, take}
+use Rattle.std.specs.Prelude.{ℕ, Bool, if◌then◌else◌, List, ◌++◌, codes, decimal}
 use Rattle.std.specs.List.{flat_map}
-use Rattle.lx_scan.specs.declared.item.Item.{Item}
-use Rattle.lx_scan.specs.ItemParts.{line_of as line_number, start_of, len_of}
-use Rattle.lx_piece.specs.Plans.{Planned, bytes_of}
 use Rattle.lx_line.specs.Decimals.{IsAmong}
 use Rattle.lx_line.specs.Escapes.{escaped}
 use Rattle.lx_line.specs.declared.fields.Digits.{Digits}
@@ -21,14 +18,6 @@ textless line start len = (decimal line ++ codes " ") ++ ((decimal start ++ code
 -- the part after the prefix, with this text or without a text
 abbrev pub rest_with : Bool → ℕ → ℕ → ℕ → List ℕ → List ℕ
 rest_with printed line start len text = if printed then rest_text line start len text else textless line start len
-
--- the same of a text in these bytes
-abbrev pub rest_by : Bool → ℕ → ℕ → ℕ → List ℕ → List ℕ
-rest_by printed line start len bytes = rest_with printed line start len (take len (drop start bytes))
-
--- that of the line of an item
-abbrev pub rest_of : Bool → Planned → ℕ → Item → List ℕ
-rest_of printed plan file item = rest_by printed (line_number item) (start_of item) (len_of item) (bytes_of plan file)
 
 -- the kept digits are those of these numbers
 pub record AreKept (digits : Digits) (numbers : Numbers) : Type 0 where

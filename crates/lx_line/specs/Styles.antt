@@ -2,7 +2,7 @@
 use Rattle.std.specs.Prelude.{◌≡◌, ℕ, ◌⊎◌, List, [], ◌∷◌, ◌++◌}
 use Rattle.std.specs.List.{flat_map}
 use Rattle.lx_tables.specs.Model.{Table}
-use Rattle.lx_scan.specs.ItemParts.{text_of}
+use Rattle.lx_scan.specs.ItemParts.{text_at, text_of}
 use Rattle.lx_scan.specs.declared.item.Item.{Item}
 use Rattle.lx_piece.specs.Plans.{Planned, bytes_of}
 use Rattle.lx_line.specs.Lines.{line_of, line_with, cut_line as plain_cut_line}
@@ -22,6 +22,10 @@ plain = record { line = line_of; line_with = line_with; cut_line = plain_cut_lin
 abbrev pub lines_by : Style → Planned → ℕ → List Item → List ℕ
 lines_by style plan file items = flat_map (style.line plan file) items
 
+-- the lines of items whose texts are in these bytes, which begin at this place of the file
+abbrev pub lines_at : Style → Table → ℕ → List ℕ → ℕ → List Item → List ℕ
+lines_at style table file bytes base items = flat_map (λ item. style.line_with table file item (text_at bytes base item)) items
+
 -- Whole lines, if the bytes begin at the start of a line and belong to a listing: a line has its only line feed at the end.
 abbrev pub AreWhole : List ℕ → Type 0
 AreWhole bytes = (bytes ≡ []) ⊎ ((front : List ℕ) × (bytes ≡ front ++ 10 ∷ []))
@@ -29,6 +33,7 @@ AreWhole bytes = (bytes ≡ []) ⊎ ((front : List ℕ) × (bytes ≡ front ++ 1
 -- each line ends with a line feed
 pub record HasWholeLines (style : Style) : Type 0 where
   pub line : (plan : Planned) (file : ℕ) (item : Item) → AreWhole (style.line plan file item)
+  pub line_with : (table : Table) (file : ℕ) (item : Item) (text : List ℕ) → AreWhole (style.line_with table file item text)
   pub cut_line : (file : ℕ) → AreWhole (style.cut_line file)
 
 -- The line of an item needs only the tables, the number of the file and the item's text, of all that a plan has.

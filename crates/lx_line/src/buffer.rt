@@ -1,12 +1,12 @@
 //! Gathers lines in memory of fixed length.
 
 ghost use Rattle.std.specs.Prelude.{◌≡◌, ◌<◌, ◌≤◌, [], ◌++◌, All, IfOk, false, length, take, true};
-ghost use Rattle.lx_scan.specs.ItemParts.{IsItemOf, NamesKindAmong};
-ghost use Rattle.lx_piece.specs.Plans.{files_of, bytes_of, kinds_of};
+ghost use Rattle.lx_scan.specs.ItemParts.{LiesAt, NamesKindAmong};
+ghost use Rattle.lx_piece.specs.Plans.{kinds_of};
 ghost use Rattle.lx_line.specs.Prefixes.{ArePrefixesOf};
-ghost use Rattle.lx_line.specs.Styles.{lines_by};
+ghost use Rattle.lx_line.specs.Styles.{lines_at};
 
-use crate::draft::{Draft, LINE};
+use crate::draft::Draft;
 use crate::place::place_all;
 use crate::style::LineStyle;
 use lx_piece::Plan;
@@ -76,36 +76,8 @@ impl LineBuffer {
         true
     }
 
-    /// Appends the line of an item with this text. Returns false, without effect, if it has no room or needs the plain way.
-    pub fn place_line_with<L: LineStyle>(
-        &mut self,
-        style: &L,
-        draft: &mut Draft,
-        plan: &Plan,
-        file: u32,
-        item: &FlatItem,
-        text: &[u8],
-    ) -> bool
-        requires item { NamesKindAmong (kinds_of plan.now) item.now }
-        requires prefixes { ArePrefixesOf (L.prefix style.now plan.now file) draft.old.prefixes }
-        ensures placed { result ≡ true → self.new ≡ self.old
-            ++ (L.style style.now).line_with plan.now.table file item.now text.now }
-        ensures not { result ≡ false → self.new ≡ self.old }
-        ensures prefixes { ArePrefixesOf (L.prefix style.now plan.now file) draft.new.prefixes }
-    {
-        if self.len + LINE > ROOM {
-            return false;
-        }
-        match style.place_line_with(draft, &mut self.bytes, self.len, plan, file, item, text) {
-            Some(end) => {
-                self.len = end;
-                true
-            }
-            None => false,
-        }
-    }
-
-    /// Appends the lines of the first items, up to one that has no room or needs the plain way. Returns their number.
+    /// Appends the lines of the first items, up to one that has no room or needs the plain way. Returns their number. Their texts are in these bytes,
+    /// which begin at position `base` of the file.
     pub(crate) fn place_lines<L: LineStyle>(
         &mut self,
         style: &L,
@@ -113,16 +85,27 @@ impl LineBuffer {
         plan: &Plan,
         file: u32,
         items: &[FlatItem],
+        bytes: &[u8],
+        base: usize,
     ) -> usize
-        requires file { file < files_of plan.now }
-        requires items { All (IsItemOf (kinds_of plan.now) (bytes_of plan.now file)) items.now }
+        requires texts { All (LiesAt bytes.now base) items.now }
+        requires named { All (NamesKindAmong (kinds_of plan.now)) items.now }
         requires prefixes { ArePrefixesOf (L.prefix style.now plan.now file) draft.old.prefixes }
         ensures few { result ≤ length items.now }
         ensures lines { self.new ≡ self.old
-            ++ lines_by (L.style style.now) plan.now file (take result items.now) }
+            ++ lines_at (L.style style.now) plan.now.table file bytes.now base (take result items.now) }
         ensures prefixes { ArePrefixesOf (L.prefix style.now plan.now file) draft.new.prefixes }
     {
-        let lines = draft.place_lines(style, &mut self.bytes, self.len, plan, file, items);
+        let lines = draft.place_lines(
+            style,
+            &mut self.bytes,
+            self.len,
+            plan,
+            file,
+            items,
+            bytes,
+            base,
+        );
         self.len = lines.end;
         lines.count
     }

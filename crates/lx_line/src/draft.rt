@@ -1,13 +1,13 @@
 //! Places lines one after the other from ready parts.
 
-ghost use Rattle.std.specs.Prelude.{◌≡◌, ◌+◌, ◌<◌, ◌≤◌, ◌++◌, All, MatchOption, length, take};
-ghost use Rattle.lx_scan.specs.ItemParts.{IsItemOf, NamesKindAmong, kind_of_item, len_of, line_of, start_of};
-ghost use Rattle.lx_piece.specs.Plans.{files_of, bytes_of, kinds_of};
-ghost use Rattle.lx_line.specs.Fields.{rest_of, rest_with};
+ghost use Rattle.std.specs.Prelude.{◌≡◌, ◌+◌, ◌<◌, ◌≤◌, ◌++◌, All, MatchOption, drop, length, take};
+ghost use Rattle.lx_scan.specs.ItemParts.{LiesAt, NamesKindAmong, kind_of_item, len_of, line_of, start_of};
+ghost use Rattle.lx_piece.specs.Plans.{kinds_of};
+ghost use Rattle.lx_line.specs.Fields.{rest_with};
 ghost use Rattle.lx_line.specs.Prefixes.{ArePrefixesOf};
-ghost use Rattle.lx_line.specs.Styles.{lines_by};
+ghost use Rattle.lx_line.specs.Styles.{lines_at};
 
-use crate::fields::{Digits, are_short, fits, numbers_in, place_rest, place_rest_with};
+use crate::fields::{Digits, fits, numbers_in, place_rest};
 use crate::prefixes::Prefixes;
 use crate::style::{LinePrefix, LineStyle};
 use lx_piece::Plan;
@@ -15,7 +15,7 @@ use lx_scan::FlatItem;
 
 // Greatest length of a line. It has a prefix of 128 bytes, three numbers, a text in which each byte may take six, and what lies between them. 16 bytes
 // that are copied after the text come to it.
-pub(crate) const LINE: usize = 800;
+const LINE: usize = 800;
 
 /// Some first items whose lines were placed: their number, and the position where the lines end.
 #[derive(Clone, Copy, Drop)]
@@ -52,7 +52,8 @@ impl Draft {
         self.prefixes = Prefixes::new(style, plan, file);
     }
 
-    /// Places the lines of the first items, up to one that has no room or needs the plain way.
+    /// Places the lines of the first items, up to one that has no room or needs the plain way. Their texts are in these bytes, which begin at
+    /// position `base` of the file.
     #[inline(never)]
     pub(crate) fn place_lines<L: LineStyle>(
         &mut self,
@@ -62,26 +63,29 @@ impl Draft {
         plan: &Plan,
         file: u32,
         items: &[FlatItem],
+        bytes: &[u8],
+        base: usize,
     ) -> FirstLines
         requires room { at ≤ length buf.old }
-        requires file { file < files_of plan.now }
-        requires items { All (IsItemOf (kinds_of plan.now) (bytes_of plan.now file)) items.now }
+        requires texts { All (LiesAt bytes.now base) items.now }
+        requires named { All (NamesKindAmong (kinds_of plan.now)) items.now }
         requires prefixes { ArePrefixesOf (L.prefix style.now plan.now file) self.old.prefixes }
         ensures few { result.count ≤ length items.now }
         ensures lines { take result.end buf.new ≡ take at buf.old
-            ++ lines_by (L.style style.now) plan.now file (take result.count items.now) }
+            ++ lines_at (L.style style.now) plan.now.table file bytes.now base
+            (take result.count items.now) }
         ensures within { result.end ≤ length buf.new }
         ensures len { length buf.new ≡ length buf.old }
         ensures prefixes { ArePrefixesOf (L.prefix style.now plan.now file) self.new.prefixes }
     {
-        let bytes = plan.bytes(file);
         let mut end = at;
         let mut count = 0;
         for item in items {
             if end + LINE > buf.len() {
                 return FirstLines { count, end };
             }
-            let Some(next) = style.place_line(self, buf, end, plan, file, bytes, item) else {
+            let from = item.start() - base;
+            let Some(next) = style.place_line(self, buf, end, plan, file, item, bytes, from) else {
                 return FirstLines { count, end };
             };
             end = next;
@@ -91,8 +95,8 @@ impl Draft {
     }
 }
 
-/// Places the line of an item as fields with a space between each two: after the prefix line, start and length, and if texts are printed the text.
-/// Returns `None` if it needs the plain way.
+/// Places the line of an item as fields with a space between each two: after the prefix line, start and length, and if texts are printed the text. It
+/// begins at position `from` of these bytes. Returns `None` if the line needs the plain way.
 #[inline(always)]
 pub fn place_fields<L: LinePrefix>(
     prefix: &L,
@@ -102,58 +106,24 @@ pub fn place_fields<L: LinePrefix>(
     at: usize,
     plan: &Plan,
     file: u32,
+    item: &FlatItem,
     bytes: &[u8],
-    item: &FlatItem,
+    from: usize,
 ) -> Option<usize>
     requires room { at + 800 ≤ length buf.old }
-    requires bytes { bytes.now ≡ bytes_of plan.now file }
-    requires item { IsItemOf (kinds_of plan.now) (bytes_of plan.now file) item.now }
-    requires prefixes { ArePrefixesOf (L.prefix prefix.now plan.now file) draft.old.prefixes }
-    ensures placed { MatchOption result (buf.new ≡ buf.old) (λ end. take end buf.new ≡ take at buf.old
-        ++ (L.prefix prefix.now plan.now file (kind_of_item item.now)
-        ++ rest_of is_printed plan.now file item.now)) }
-    ensures short { MatchOption result (Unit {0}) (λ end. end ≤ at + 800) }
-    ensures len { length buf.new ≡ length buf.old }
-    ensures prefixes { ArePrefixesOf (L.prefix prefix.now plan.now file) draft.new.prefixes }
-{
-    let numbers = numbers_in(item);
-    if !fits(numbers, bytes) || !draft.digits.follow(numbers) {
-        return None;
-    }
-    let Some(at) = draft
-        .prefixes
-        .place(prefix, buf, at, plan, file, item.label())
-    else {
-        return None;
-    };
-    Some(place_rest(buf, at, &draft.digits, numbers, is_printed, bytes))
-}
-
-/// Does the same as `place_fields` for an item with this text. The plan need not have the item: only its tables count.
-#[inline(always)]
-pub fn place_fields_with<L: LinePrefix>(
-    prefix: &L,
-    is_printed: bool,
-    draft: &mut Draft,
-    buf: &mut [u8],
-    at: usize,
-    plan: &Plan,
-    file: u32,
-    item: &FlatItem,
-    text: &[u8],
-) -> Option<usize>
-    requires room { at + 800 ≤ length buf.old }
+    requires text { from + len_of item.now ≤ length bytes.now }
     requires item { NamesKindAmong (kinds_of plan.now) item.now }
     requires prefixes { ArePrefixesOf (L.prefix prefix.now plan.now file) draft.old.prefixes }
     ensures placed { MatchOption result (buf.new ≡ buf.old) (λ end. take end buf.new ≡ take at buf.old
         ++ (L.prefix prefix.now plan.now file (kind_of_item item.now)
-        ++ rest_with is_printed (line_of item.now) (start_of item.now) (len_of item.now) text.now)) }
+        ++ rest_with is_printed (line_of item.now) (start_of item.now) (len_of item.now)
+        (take (len_of item.now) (drop from bytes.now)))) }
     ensures short { MatchOption result (Unit {0}) (λ end. end ≤ at + 800) }
     ensures len { length buf.new ≡ length buf.old }
     ensures prefixes { ArePrefixesOf (L.prefix prefix.now plan.now file) draft.new.prefixes }
 {
     let numbers = numbers_in(item);
-    if !are_short(numbers, text) || !draft.digits.follow(numbers) {
+    if !fits(numbers.len, bytes, from) || !draft.digits.follow(numbers) {
         return None;
     }
     let Some(at) = draft
@@ -162,5 +132,5 @@ pub fn place_fields_with<L: LinePrefix>(
     else {
         return None;
     };
-    Some(place_rest_with(buf, at, &draft.digits, numbers, is_printed, text))
+    Some(place_rest(buf, at, &draft.digits, numbers, is_printed, bytes, from))
 }

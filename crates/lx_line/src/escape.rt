@@ -1,6 +1,6 @@
 //! Escapes of bytes.
 
-ghost use Rattle.std.specs.Prelude.{◌≡◌, ◌+◌, ◌<◌, ◌≤◌, ℕ, [], ◌∷◌, List, length, take, drop, true};
+ghost use Rattle.std.specs.Prelude.{◌≡◌, ◌+◌, ◌<◌, ◌≤◌, ℕ, List, length, take, drop};
 ghost use Rattle.std.specs.List.{flat_map};
 ghost use Rattle.lx_line.specs.Escapes.{ShowsPlain, escaped, hex_digit};
 ghost use Rattle.lx_line.specs.Placed.{Placed};
@@ -19,10 +19,6 @@ pub trait Escape {
         ensures few { result ≤ 16 }
         ensures plain { (n : ℕ) → n ≤ result
             → flat_map shown (take n (drop from src.now)) ≡ take n (drop from src.now) };
-
-    /// Returns true if a byte is shown as it is. May return false for one that is.
-    fn is_plain(byte: u8) -> bool
-        ensures { result ≡ true → shown byte ≡ byte ∷ [] };
 
     /// Places what shows a byte.
     fn place_shown(buf: &mut [u8], at: usize, byte: u8) -> usize
@@ -90,11 +86,6 @@ impl Escape for TextEscape {
     }
 
     #[inline(always)]
-    fn is_plain(byte: u8) -> bool {
-        byte != b'\\' && matches!(byte, b' '..=b'~')
-    }
-
-    #[inline(always)]
     fn place_shown(buf: &mut [u8], at: usize, byte: u8) -> usize {
         place_escaped(buf, at, byte)
     }
@@ -108,11 +99,6 @@ impl Escape for NameEscape {
     #[inline(always)]
     fn plain_16(src: &[u8], from: usize) -> usize {
         plain_from(src, from, b'!')
-    }
-
-    #[inline(always)]
-    fn is_plain(byte: u8) -> bool {
-        byte != b' ' && TextEscape::is_plain(byte)
     }
 
     fn place_shown(buf: &mut [u8], at: usize, byte: u8) -> usize {

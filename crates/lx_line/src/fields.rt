@@ -1,15 +1,15 @@
 //! Places the fields of a line from ready parts.
 
-ghost use Rattle.std.specs.Prelude.{◌≡◌, ◌+◌, ◌<◌, ◌≤◌, IsTrue, decimal, length};
+ghost use Rattle.std.specs.Prelude.{◌≡◌, ◌+◌, ◌<◌, ◌≤◌, IsTrue, decimal, drop, length, take};
 ghost use Rattle.lx_scan.specs.ItemParts.{kind_of_item, line_of, start_of, len_of};
-ghost use Rattle.lx_line.specs.Fields.{AreKept, rest_by, rest_with};
+ghost use Rattle.lx_line.specs.Fields.{AreKept, rest_with};
 ghost use Rattle.lx_line.specs.Placed.{Placed};
 
 use crate::decimals::place_short;
 use crate::escape::TextEscape;
 use crate::place::place_byte;
 use crate::shared::SharedDigits;
-use crate::texts::{place_any_text, place_text};
+use crate::texts::place_text;
 use lx_rules::rule::Kind;
 use lx_scan::{FlatItem, Item};
 
@@ -125,7 +125,7 @@ pub fn place_small(buf: &mut [u8], at: usize, number: usize) -> usize
     place_short(buf, at, number) - 1
 }
 
-/// Places the part of a line after its prefix, with the text or without it.
+/// Places the part of a line after its prefix, with the text, which begins at position `from` of these bytes, or without it.
 #[inline(always)]
 pub(crate) fn place_rest(
     buf: &mut [u8],
@@ -134,13 +134,14 @@ pub(crate) fn place_rest(
     numbers: Numbers,
     is_printed: bool,
     bytes: &[u8],
+    from: usize,
 ) -> usize
     requires digits { AreKept digits.now numbers }
     requires len { numbers.len ≤ 96 }
-    requires text { numbers.start + numbers.len + 16 ≤ length bytes.now }
+    requires text { from + numbers.len + 16 ≤ length bytes.now }
     requires room { at + 640 ≤ length buf.old }
-    ensures placed { Placed buf.old buf.new at
-        (rest_by is_printed numbers.line numbers.start numbers.len bytes.now) result }
+    ensures placed { Placed buf.old buf.new at (rest_with is_printed numbers.line numbers.start
+        numbers.len (take numbers.len (drop from bytes.now))) result }
     ensures short { result ≤ at + 640 }
 {
     let Numbers { line, start, len } = numbers;
@@ -151,55 +152,16 @@ pub(crate) fn place_rest(
         return place_byte(buf, at, b'\n');
     }
     let at = place_short(buf, at, len);
-    let at = place_text::<TextEscape>(buf, at, bytes, start, len);
+    let at = place_text::<TextEscape>(buf, at, bytes, from, len);
     place_byte(buf, at, b'\n')
 }
 
-/// Places the part of a line after its prefix, with this text or without a text.
+/// Returns true if a text of this length at position `from` of these bytes is short enough, and 16 bytes can be read after it.
 #[inline(always)]
-pub(crate) fn place_rest_with(
-    buf: &mut [u8],
-    at: usize,
-    digits: &Digits,
-    numbers: Numbers,
-    is_printed: bool,
-    text: &[u8],
-) -> usize
-    requires digits { AreKept digits.now numbers }
-    requires len { numbers.len ≤ 96 }
-    requires text { length text.now ≤ 96 }
-    requires room { at + 656 ≤ length buf.old }
-    ensures placed { Placed buf.old buf.new at
-        (rest_with is_printed numbers.line numbers.start numbers.len text.now) result }
-    ensures short { result ≤ at + 640 }
+pub fn fits(len: usize, bytes: &[u8], from: usize) -> bool
+    requires { from + len ≤ length bytes.now }
+    ensures len { IsTrue result → len ≤ 96 }
+    ensures text { IsTrue result → from + len + 16 ≤ length bytes.now }
 {
-    let Numbers { line, start, len } = numbers;
-    let at = digits.line.place(buf, at, line);
-    let at = digits.start.place(buf, at, start as u64);
-    if !is_printed {
-        let at = place_small(buf, at, len);
-        return place_byte(buf, at, b'\n');
-    }
-    let at = place_short(buf, at, len);
-    let at = place_any_text::<TextEscape>(buf, at, text);
-    place_byte(buf, at, b'\n')
-}
-
-/// Returns true if a text and its length are short enough.
-#[inline(always)]
-pub fn are_short(numbers: Numbers, text: &[u8]) -> bool
-    ensures len { IsTrue result → numbers.len ≤ 96 }
-    ensures text { IsTrue result → length text.now ≤ 96 }
-{
-    numbers.len <= TEXT && text.len() <= TEXT
-}
-
-/// Returns true if the text is short enough, and 16 bytes can be read after it.
-#[inline(always)]
-pub fn fits(numbers: Numbers, bytes: &[u8]) -> bool
-    requires { numbers.start + numbers.len ≤ length bytes.now }
-    ensures len { IsTrue result → numbers.len ≤ 96 }
-    ensures text { IsTrue result → numbers.start + numbers.len + 16 ≤ length bytes.now }
-{
-    numbers.len <= TEXT && numbers.start + numbers.len < bytes.len().saturating_sub(15)
+    len <= TEXT && from + len < bytes.len().saturating_sub(15)
 }

@@ -1,11 +1,11 @@
 //! Makes the lines of items.
 
 ghost use Rattle.std.specs.Prelude.{◌≡◌, ◌<◌, ◌≤◌, ◌++◌, All, IfOk, OnOk, length, take};
-ghost use Rattle.lx_scan.specs.ItemParts.{IsItemOf};
+ghost use Rattle.lx_scan.specs.ItemParts.{IsItemOf, LiesAt, NamesKindAmong};
 ghost use Rattle.lx_piece.specs.Plans.{files_of, bytes_of, kinds_of};
 ghost use Rattle.lx_line.specs.Lines.{lines_of};
 ghost use Rattle.lx_line.specs.Prefixes.{ArePrefixesOf};
-ghost use Rattle.lx_line.specs.Styles.{lines_by};
+ghost use Rattle.lx_line.specs.Styles.{lines_at, lines_by};
 
 use crate::buffer::LineBuffer;
 use crate::draft::{Draft, FirstLines};
@@ -106,7 +106,8 @@ fn push_some<L: LineStyle>(
         ++ lines_by (L.style style.now) plan.now file (take count items.now)) }
     ensures prefixes { ArePrefixesOf (L.prefix style.now plan.now file) draft.new.prefixes }
 {
-    let FirstLines { count, end } = draft.place_lines(style, lines, 0, plan, file, items);
+    let bytes = plan.bytes(file);
+    let FirstLines { count, end } = draft.place_lines(style, lines, 0, plan, file, items, bytes, 0);
     if count == 0 {
         push_line(style, block, plan, file, &items[0].item())?;
         return Ok(1);
@@ -210,22 +211,25 @@ impl<L: LineStyle> PlanDraft<L> {
         push_many(&self.style, &mut self.draft, block, plan, file, items)
     }
 
-    /// Appends to the buffer the lines of the first items of a file of its plan. Ends before one that has no room or needs the plain way. Returns
-    /// their number.
+    /// Appends to the buffer the lines of the first items. Ends before one that has no room or needs the plain way. Returns their number. The texts
+    /// are in these bytes, which begin at position `base` of the file. The plan need not have the items: only its tables count.
     pub fn place_lines(
         &mut self,
         buffer: &mut LineBuffer,
         plan: &Plan,
         file: u32,
         items: &[FlatItem],
+        bytes: &[u8],
+        base: usize,
     ) -> usize
         requires plan { self.old.plan ≡ plan.now }
-        requires file { file < files_of plan.now }
-        requires items { All (IsItemOf (kinds_of plan.now) (bytes_of plan.now file)) items.now }
+        requires texts { All (LiesAt bytes.now base) items.now }
+        requires named { All (NamesKindAmong (kinds_of plan.now)) items.now }
         ensures same { self.new ≡ self.old }
         ensures few { result ≤ length items.now }
         ensures lines { buffer.new ≡ buffer.old
-            ++ lines_by (L.style self.old.style) plan.now file (take result items.now) }
+            ++ lines_at (L.style self.old.style) plan.now.table file bytes.now base
+            (take result items.now) }
     {
         if self.file != file && items.len() < MANY {
             return 0;
@@ -234,6 +238,6 @@ impl<L: LineStyle> PlanDraft<L> {
             self.file = file;
             self.draft.begin(&self.style, plan, file);
         }
-        buffer.place_lines(&self.style, &mut self.draft, plan, file, items)
+        buffer.place_lines(&self.style, &mut self.draft, plan, file, items, bytes, base)
     }
 }

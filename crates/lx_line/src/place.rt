@@ -49,20 +49,6 @@ pub fn place_4(buf: &mut [u8], at: usize, src: &[u8], from: usize, len: usize) -
     at + len
 }
 
-/// Places a text of 4 to 8 bytes: the first 4, and then the last 4.
-#[inline(always)]
-pub fn place_4_to_8(buf: &mut [u8], at: usize, text: &[u8]) -> usize
-    requires some { 4 ≤ length text.now }
-    requires few { length text.now ≤ 8 }
-    requires room { at + length text.now ≤ length buf.old }
-    ensures { Placed buf.old buf.new at text.now result }
-{
-    let last = text.len() - 4;
-    put_4(buf, at, text, 0);
-    put_4(buf, at + last, text, last);
-    at + text.len()
-}
-
 /// Copies 16 bytes from a position of the source. Any number of the first ones may count.
 #[inline(always)]
 pub fn put_16(buf: &mut [u8], at: usize, src: &[u8], from: usize)

@@ -8,7 +8,7 @@ ghost use Rattle.lx_line.specs.Lines.{class_text, name_text, kind_text, cut_line
 ghost use Rattle.lx_line.specs.Placed.{Placed};
 ghost use Rattle.lx_line.specs.Prefixes.{IsKindOf, class_and_kind};
 
-use crate::draft::{Draft, place_fields, place_fields_with};
+use crate::draft::{Draft, place_fields};
 use crate::escape::{Escape, TextEscape};
 use crate::fields::numbers_of;
 use crate::place::{place_all, place_byte};
@@ -251,24 +251,11 @@ impl LineStyle for PlainStyle {
         at: usize,
         plan: &Plan,
         file: u32,
+        item: &FlatItem,
         bytes: &[u8],
-        item: &FlatItem,
+        from: usize,
     ) -> Option<usize> {
-        place_fields(self, true, draft, buf, at, plan, file, bytes, item)
-    }
-
-    #[inline(always)]
-    fn place_line_with(
-        &self,
-        draft: &mut Draft,
-        buf: &mut [u8],
-        at: usize,
-        plan: &Plan,
-        file: u32,
-        item: &FlatItem,
-        text: &[u8],
-    ) -> Option<usize> {
-        place_fields_with(self, true, draft, buf, at, plan, file, item, text)
+        place_fields(self, true, draft, buf, at, plan, file, item, bytes, from)
     }
 
     fn push_start(

@@ -1,10 +1,10 @@
 //! Styles of lines.
 
-ghost use Rattle.std.specs.Prelude.{◌≡◌, ◌+◌, ◌<◌, ◌≤◌, ◌++◌, ℕ, IfOk, List, MatchOption, OnOk, Option, codes, false, length, take, true};
+ghost use Rattle.std.specs.Prelude.{◌≡◌, ◌+◌, ◌<◌, ◌≤◌, ◌++◌, ℕ, IfOk, List, MatchOption, OnOk, Option, codes, drop, false, length, take, true};
 ghost use Rattle.std.specs.List.{flat_map};
 ghost use Rattle.lx_rules.specs.declared.rule.Kind.{Kind};
-ghost use Rattle.lx_scan.specs.ItemParts.{IsItemOf, NamesKindAmong};
-ghost use Rattle.lx_piece.specs.Plans.{Planned, bytes_of, kinds_of};
+ghost use Rattle.lx_scan.specs.ItemParts.{NamesKindAmong, len_of};
+ghost use Rattle.lx_piece.specs.Plans.{Planned, kinds_of};
 ghost use Rattle.lx_line.specs.Escapes.{escaped};
 ghost use Rattle.lx_line.specs.Placed.{Placed};
 ghost use Rattle.lx_line.specs.Prefixes.{ArePrefixesOf, IsKindOf};
@@ -43,8 +43,8 @@ pub trait LineStyle: LinePrefix {
     /// The line of an item, or nothing for an item without one, and the line of a file whose reading failed.
     ghost style: { Self → Style };
 
-    /// Places the line of an item. Returns `None` if it needs the plain way: for a long line, and for a text near the end of the file, after which 16
-    /// bytes can't be read.
+    /// Places the line of an item whose text begins at position `from` of these bytes. The plan need not have the item: only its tables count.
+    /// Returns `None` if it needs the plain way: for a long line, and for a text near the end of the bytes, after which 16 bytes can't be read.
     fn place_line(
         &self,
         draft: &mut Draft,
@@ -52,35 +52,17 @@ pub trait LineStyle: LinePrefix {
         at: usize,
         plan: &Plan,
         file: u32,
+        item: &FlatItem,
         bytes: &[u8],
-        item: &FlatItem,
+        from: usize,
     ) -> Option<usize>
         requires room { at + 800 ≤ length buf.old }
-        requires bytes { bytes.now ≡ bytes_of plan.now file }
-        requires item { IsItemOf (kinds_of plan.now) (bytes_of plan.now file) item.now }
-        requires prefixes { ArePrefixesOf (Self.prefix self.now plan.now file) draft.old.prefixes }
-        ensures placed { MatchOption result (buf.new ≡ buf.old) (λ end.
-            take end buf.new ≡ take at buf.old ++ (style self.now).line plan.now file item.now) }
-        ensures short { MatchOption result (Unit {0}) (λ end. end ≤ at + 800) }
-        ensures len { length buf.new ≡ length buf.old }
-        ensures prefixes { ArePrefixesOf (Self.prefix self.now plan.now file) draft.new.prefixes };
-
-    /// Places the line of an item with this text. The plan need not have the item: only its tables count. Returns `None` if it needs the plain way.
-    fn place_line_with(
-        &self,
-        draft: &mut Draft,
-        buf: &mut [u8],
-        at: usize,
-        plan: &Plan,
-        file: u32,
-        item: &FlatItem,
-        text: &[u8],
-    ) -> Option<usize>
-        requires room { at + 800 ≤ length buf.old }
+        requires text { from + len_of item.now ≤ length bytes.now }
         requires item { NamesKindAmong (kinds_of plan.now) item.now }
         requires prefixes { ArePrefixesOf (Self.prefix self.now plan.now file) draft.old.prefixes }
         ensures placed { MatchOption result (buf.new ≡ buf.old) (λ end. take end buf.new
-            ≡ take at buf.old ++ (style self.now).line_with plan.now.table file item.now text.now) }
+            ≡ take at buf.old ++ (style self.now).line_with plan.now.table file item.now
+            (take (len_of item.now) (drop from bytes.now))) }
         ensures short { MatchOption result (Unit {0}) (λ end. end ≤ at + 800) }
         ensures len { length buf.new ≡ length buf.old }
         ensures prefixes { ArePrefixesOf (Self.prefix self.now plan.now file) draft.new.prefixes };

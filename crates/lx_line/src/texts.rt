@@ -1,11 +1,11 @@
 //! Places texts, with bytes escaped.
 
-ghost use Rattle.std.specs.Prelude.{◌≡◌, ◌+◌, ◌*◌, ◌<◌, ◌≤◌, ℕ, length, take, drop, true};
+ghost use Rattle.std.specs.Prelude.{◌+◌, ◌*◌, ◌<◌, ◌≤◌, length, take, drop};
 ghost use Rattle.std.specs.List.{flat_map};
 ghost use Rattle.lx_line.specs.Placed.{Placed};
 
 use crate::escape::Escape;
-use crate::place::{place_4_to_8, place_16};
+use crate::place::place_16;
 
 // A placed part of a text: the position where it ends, and the number of text bytes in it.
 #[derive(Clone, Copy, Drop)]
@@ -84,58 +84,13 @@ pub fn place_text<E: Escape>(
     place_long::<E>(buf, at, bytes, start, len)
 }
 
-// Places a text byte by byte.
-#[inline(always)]
-fn place_bytes<E: Escape>(buf: &mut [u8], at: usize, text: &[u8]) -> usize
-    requires { at + 6 * length text.now ≤ length buf.old }
-    ensures placed { Placed buf.old buf.new at (flat_map E.shown text.now) result }
-    ensures short { result ≤ at + 6 * length text.now }
-{
-    let mut done = 0;
-    let mut end = at;
-    while done < text.len() {
-        end = E::place_shown(buf, end, text[done]);
-        done += 1;
-    }
-    end
-}
-
-// Returns true if the first 4 bytes of a text are shown as they are.
-#[inline(always)]
-#[tactic(auto, using(crate::proofs::Unescaped::plain_4))]
-fn are_4_plain<E: Escape>(text: &[u8]) -> bool
-    requires { 4 ≤ length text.now }
-    ensures { result ≡ true → (n : ℕ) → n ≤ 4
-        → flat_map E.shown (take n text.now) ≡ take n text.now }
-{
-    E::is_plain(text[0]) && E::is_plain(text[1]) && E::is_plain(text[2]) && E::is_plain(text[3])
-}
-
-// Returns true if a text of 4 to 8 bytes is shown as it is.
-#[inline(always)]
-fn is_plain<E: Escape>(text: &[u8]) -> bool
-    requires some { 4 ≤ length text.now }
-    requires few { length text.now ≤ 8 }
-    ensures { result ≡ true → flat_map E.shown text.now ≡ text.now }
-{
-    let last = text.len() - 4;
-    are_4_plain::<E>(text) && are_4_plain::<E>(&text[last..])
-}
-
-// Places a text of at most 16 bytes: fewer than 4 one by one, up to 8 at once if they are shown as they are, and others from a copy with 16 more
-// bytes, which can be read too.
-fn place_short<E: Escape>(buf: &mut [u8], at: usize, text: &[u8]) -> usize
+// Places a text of at most 16 bytes from a copy with 16 more, which can be read too.
+fn place_copied<E: Escape>(buf: &mut [u8], at: usize, text: &[u8]) -> usize
     requires few { length text.now ≤ 16 }
     requires room { at + 6 * length text.now + 16 ≤ length buf.old }
     ensures placed { Placed buf.old buf.new at (flat_map E.shown text.now) result }
     ensures short { result ≤ at + 6 * length text.now }
 {
-    if text.len() < 4 {
-        return place_bytes::<E>(buf, at, text);
-    }
-    if text.len() <= 8 && is_plain::<E>(text) {
-        return place_4_to_8(buf, at, text);
-    }
     let mut bytes = [0; 32];
     bytes[..text.len()].copy_from_slice(text);
     place_text::<E>(buf, at, &bytes, 0, text.len())
@@ -148,9 +103,9 @@ pub fn place_any_text<E: Escape>(buf: &mut [u8], at: usize, text: &[u8]) -> usiz
     ensures short { result ≤ at + 6 * length text.now }
 {
     if text.len() <= 16 {
-        return place_short::<E>(buf, at, text);
+        return place_copied::<E>(buf, at, text);
     }
     let front = text.len() - 16;
     let end = place_text::<E>(buf, at, text, 0, front);
-    place_short::<E>(buf, end, &text[front..])
+    place_copied::<E>(buf, end, &text[front..])
 }

@@ -1,4 +1,4 @@
-use Rattle.std.proofs.Common.{List, ◌∙◌, ap, sym}
+use Rattle.std.proofs.Common.{◌∙◌, ap, sym}
 use Rattle.lx_scan.specs.ItemParts.{text_of}
 use Rattle.lx_line.proofs.Behind.{ok_as}
 use Rattle.lx_line.proofs.plain.push_line.Goals as goal

@@ -16,4 +16,4 @@ pub returns-clause-placed : goal.returns-clause-placed
 returns-clause-placed g c =
     let text = c.args.text.now in
     let front = length text - 16 in
-    Placed-is (Placed-then c.place_text-end.ensures.placed c.place_short-2.ensures.placed) (text_whole g.E.Escape.shown text front (length text - front) (let long = c.if-text-le16.false in omega arith))
+    Placed-is (Placed-then c.place_text-end.ensures.placed c.place_copied-2.ensures.placed) (text_whole g.E.Escape.shown text front (length text - front) (let long = c.if-text-le16.false in omega arith))
