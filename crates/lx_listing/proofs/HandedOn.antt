@@ -2,8 +2,8 @@
 use Rattle.std.proofs.Common.{ℕ, ◌≡◌, Bool, false, List, [], ◌++◌, sym, ◌∙◌, ap, subst, append-nil}
 use Rattle.std.specs.Prelude.{Result, Ok, Err, OnErr, OnOk, is_err}
 use Rattle.std.proofs.lemmas.Bool.{both_ways}
+use Rattle.lx_tables.specs.Model.{Table}
 use Rattle.lx_scan.specs.declared.item.Item.{Item}
-use Rattle.lx_piece.specs.Plans.{Planned}
 use Rattle.lx_line.specs.Styles.{Style}
 use Rattle.lx_piece.specs.declared.reader.ReaderFault.{ReaderFault}
 use Rattle.lx_piece.specs.Pieces.{IsPrefix}
@@ -66,8 +66,8 @@ pub part_same : {S : Type 0} (wrote : S → List ℕ → S → Type 0) (s t u : 
 part_same {S} wrote s t u fault bytes same part = subst (λ (old : S). WrotePart wrote old fault bytes u) same part
 
 -- the written part of a line in a style, which is this one
-pub part_by_style : {S L : Type 0} (wrote : S → List ℕ → S → Type 0) (style : L → Style) (a b : L) (plan : Planned) (file : ℕ) (item : Item) (s t : S) (fault : ReaderFault) → a ≡ b → WrotePart wrote s fault ((style a).line plan file item) t → WrotePart wrote s fault ((style b).line plan file item) t
-part_by_style wrote style a b plan file item s t fault same part = subst (λ by. WrotePart wrote s fault ((style by).line plan file item) t) same part
+pub part_by_style : {S L : Type 0} (wrote : S → List ℕ → S → Type 0) (style : L → Style) (a b : L) (table : Table) (file : ℕ) (item : Item) (text : List ℕ) (s t : S) (fault : ReaderFault) → a ≡ b → WrotePart wrote s fault ((style a).line_with table file item text) t → WrotePart wrote s fault ((style b).line_with table file item text) t
+part_by_style wrote style a b table file item text s t fault same part = subst (λ by. WrotePart wrote s fault ((style by).line_with table file item text) t) same part
 
 -- the written part of the line of an item, which is this one
 pub part_of_item : {S X : Type 0} (wrote : S → List ℕ → S → Type 0) (text : X → List ℕ) (s t : S) (fault : ReaderFault) (x y : X) → x ≡ y → WrotePart wrote s fault (text x) t → WrotePart wrote s fault (text y) t

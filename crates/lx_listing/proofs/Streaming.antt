@@ -1,17 +1,17 @@
 -- The lines of a file that arrives in blocks.
-use Rattle.std.proofs.Common.{ℕ, ◌≡◌, inl, ◌+◌, ◌-◌, ◌<◌, ◌≤◌, true, false, Bool, List, [], ◌++◌, Result, Ok, Err, take, drop, length, length-append, length-take, refl, sym, ◌∙◌, ap, ap₂, subst, append_assoc, append-nil, arith, if◌then◌else◌}
-use Rattle.std.specs.Prelude.{All, IsTrue, OnOk, get_or}
+use Rattle.std.proofs.Common.{ℕ, ◌≡◌, inl, ◌+◌, ◌-◌, ◌<◌, ◌≤◌, true, false, Bool, List, [], ◌∷◌, ◌++◌, Result, Ok, Err, take, drop, length, length-append, length-take, refl, sym, ◌∙◌, ap, ap₂, subst, append_assoc, append-nil, arith, if◌then◌else◌}
+use Rattle.std.specs.Prelude.{All, IsTrue, OnOk}
 use Rattle.std.proofs.lemmas.Grind.{flat_map-append}
-use Rattle.std.proofs.lemmas.List.Elements.{All-drop, All-take, All-weaker}
+use Rattle.std.proofs.lemmas.List.Elements.{All-drop, All-head, All-tail, All-take, All-weaker}
 use Rattle.std.proofs.Math.Seq.{drop-append_seam, take-append_seam}
 use Rattle.lx_tables.specs.Model.{IsTable, Table}
 use Rattle.lx_scan.specs.declared.item.Item.{Item}
-use Rattle.lx_scan.specs.ItemParts.{IsItemOf, NamesKindAmong, text_of}
+use Rattle.lx_scan.specs.ItemParts.{IsItemOf, NamesKindAmong, text_at, text_of}
 use Rattle.lx_scan.specs.Items as scan
 use Rattle.lx_scan.specs.Streams.{Feeds, Gives, HasScanned, IsDrained, IsFedOf, IsOver, Stream, first_stream, left_in}
-use Rattle.lx_scan.proofs.Streaming.{all_scanned, begins_scanned, ends_scanned, feeds_scanned, front_more, gives_none, gives_then}
+use Rattle.lx_scan.proofs.Streaming.{all_scanned, begins_scanned, ends_scanned, feeds_scanned, gives_none, gives_then}
 use Rattle.lx_piece.specs.Plans.{PlainInput, Planned, bytes_of, input_of, items_of}
-use Rattle.lx_line.specs.Styles.{NeedsText, Style, lines_by}
+use Rattle.lx_line.specs.Styles.{NeedsText, Style, lines_at, lines_by}
 use Rattle.lx_listing.specs.Gathered.{Gathered, Gathers}
 use Rattle.lx_listing.specs.GatheredLaws.{gathers_nothing, gathers_on}
 use Rattle.lx_listing.specs.Lines.{cut_lines_by, file_lines_by}
@@ -102,17 +102,16 @@ fewer_items a b text given false count most g fed some is full =
     let all : length (left_in a text) ≡ length (given ++ left_in b text) = ap length (g.items text [] fed) in
     omega (arith, all, length-append given (left_in b text))
 
-module _ {S : Type 0} (wrote : S → List ℕ → S → Type 0) (nothing : (s : S) → wrote s [] s) (on : (s t u : S) (xs ys : List ℕ) → wrote s xs t → wrote t ys u → wrote s (xs ++ ys) u) (style : Style) (file : ℕ) where
-  -- one line more
-  pub line_next : NeedsText style → (table : Table) (items : List Item) (i : ℕ) (item own : Item) (text : List ℕ) (whole : Planned) (old mid new : Gathered S) → i < length items → get_or items i own ≡ own → item ≡ own → whole.table ≡ table → text ≡ text_of (bytes_of whole file) item →
-      Gathers wrote old (lines_by style whole file (take i items)) mid → Gathers wrote mid (style.line_with table file item text) new → Gathers wrote old (lines_by style whole file (take (i + 1) items)) new
-  line_next needs table items i item own text whole old mid new more is same e t first added =
-      let own_text = text_of (bytes_of whole file) item in
-      let line : style.line_with table file item text ≡ style.line whole file own
-      = ap (style.line_with table file item) t ∙ ap (λ (k : Table). style.line_with k file item own_text) (sym e) ∙ sym (needs.line whole file item) ∙ ap (style.line whole file) same in
-      subst (λ (bytes : List ℕ). Gathers wrote old bytes new) (front_more (style.line whole file) [] items i own more is)
-      (gathers_on wrote on old mid new (lines_by style whole file (take i items)) (style.line whole file own) first (subst (λ (bytes : List ℕ). Gathers wrote mid bytes new) line added))
+-- the lines of items that a scanner keeps, by the bytes that it keeps
+pub lines_kept : (style : Style) → NeedsText style → (table : Table) (file : ℕ) (bytes : List ℕ) (base : ℕ) (whole : Planned) (P : Item → Type 0) → ((item : Item) → P item → text_at bytes base item ≡ text_of (bytes_of whole file) item) → whole.table ≡ table → (items : List Item) → All P items →
+    lines_at style table file bytes base items ≡ lines_by style whole file items
+lines_kept style needs table file bytes base whole P same e [] all = refl
+lines_kept style needs table file bytes base whole P same e (item ∷ items) all =
+    ap₂ (λ (line lines : List ℕ). line ++ lines)
+    (ap (style.line_with table file item) (same item (All-head P item items all)) ∙ ap (λ (k : Table). style.line_with k file item (text_of (bytes_of whole file) item)) (sym e) ∙ sym (needs.line whole file item))
+    (lines_kept style needs table file bytes base whole P same e items (All-tail P item items all))
 
+module _ {S : Type 0} (wrote : S → List ℕ → S → Type 0) (nothing : (s : S) → wrote s [] s) (on : (s t u : S) (xs ys : List ℕ) → wrote s xs t → wrote t ys u → wrote s (xs ++ ys) u) (style : Style) (file : ℕ) where
   -- ---- the lines of the items that it gives
   pub lists_none : (s : Stream) (old : Gathered S) → ListsGiven wrote style file s old s old
   lists_none s old = record { given = []; gives = gives_none s; lines = λ whole rest e fed. gathers_nothing wrote nothing old }

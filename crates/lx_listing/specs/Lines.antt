@@ -6,7 +6,7 @@ use Rattle.lx_piece.specs.Plans.{Planned, is_cut, items_of}
 -- the lines of items
 pub use Rattle.lx_line.specs.Escapes.{hex_digit, escaped}
 pub use Rattle.lx_line.specs.Lines.{class_text, name_text, kind_text, line_of, lines_of, cut_line}
-pub use Rattle.lx_line.specs.Styles.{Style, lines_by, plain}
+pub use Rattle.lx_line.specs.Styles.{Style, lines_at, lines_by, plain}
 
 -- the lines after those of items: the cut line if the reading failed, otherwise none
 abbrev pub cut_lines_by : Style → ℕ → Bool → List ℕ

@@ -1,17 +1,16 @@
 //! Gathers lines before they go to a sink, so that the sink gets many at once.
 
 ghost use Rattle.std.specs.Prelude.{◌≡◌, ◌<◌, ◌≤◌, [], All, IfErr, IfOk, OnOk, OnErr, false, is_err, length, take, true};
-ghost use Rattle.lx_scan.specs.ItemParts.{IsItemOf, NamesKindAmong};
-ghost use Rattle.lx_piece.specs.Plans.{bytes_of, files_of, kinds_of};
-ghost use Rattle.lx_line.specs.Prefixes.{ArePrefixesOf};
+ghost use Rattle.lx_scan.specs.ItemParts.{LiesAt, NamesKindAmong, text_at};
+ghost use Rattle.lx_piece.specs.Plans.{kinds_of};
 ghost use Rattle.lx_listing.specs.Gathered.{Gathers, gathered};
-ghost use Rattle.lx_listing.specs.Lines.{lines_by};
+ghost use Rattle.lx_listing.specs.Lines.{lines_at};
 ghost use Rattle.lx_listing.specs.Parts.{WrotePart};
 ghost use Rattle.lx_listing.specs.Printing.{WrotePrefix};
 
 use crate::parts::{PART, gather_long};
 use crate::sink::LineSink;
-use lx_line::{Draft, LineBuffer, LineStyle, PlanDraft, push_line_with};
+use lx_line::{LineBuffer, LineStyle, PlanDraft, push_line_with};
 use lx_piece::{Plan, ReaderFault};
 use lx_scan::{FlatItem, Item};
 use std::marker::Model;
@@ -99,27 +98,6 @@ impl<S: LineSink> Gathering<S> {
         self.write_through(block)
     }
 
-    // Places the line of an item with this text in the buffer. Returns false, without effect, if it has no room or needs the plain way.
-    fn place_line<L: LineStyle>(
-        &mut self,
-        style: &L,
-        draft: &mut Draft,
-        plan: &Plan,
-        file: u32,
-        item: &FlatItem,
-        text: &[u8],
-    ) -> bool
-        requires item { NamesKindAmong (kinds_of plan.now) item.now }
-        requires prefixes { ArePrefixesOf (L.prefix style.now plan.now file) draft.old.prefixes }
-        ensures placed { result ≡ true → Gathers S.wrote self.old
-            ((L.style style.now).line_with plan.now.table file item.now text.now) self.new }
-        ensures not { result ≡ false → self.new ≡ self.old }
-        ensures prefixes { ArePrefixesOf (L.prefix style.now plan.now file) draft.new.prefixes }
-    {
-        self.held
-            .place_line_with(style, draft, plan, file, item, text)
-    }
-
     /// Gathers the line of an item with this text. Makes it in the block, or in parts if the text is long. Only the tables of the plan count.
     pub(crate) fn gather_line<L: LineStyle>(
         &mut self,
@@ -146,30 +124,7 @@ impl<S: LineSink> Gathering<S> {
         self.gather(block.as_slice())
     }
 
-    /// Does the same as `gather_line`, and places the line from ready parts if it can.
-    pub(crate) fn gather_drafted<L: LineStyle>(
-        &mut self,
-        style: &L,
-        draft: &mut Draft,
-        block: &mut Vec<u8>,
-        plan: &Plan,
-        file: u32,
-        item: &FlatItem,
-        text: &[u8],
-    ) -> Result<(), ReaderFault>
-        requires item { NamesKindAmong (kinds_of plan.now) item.now }
-        requires prefixes { ArePrefixesOf (L.prefix style.now plan.now file) draft.old.prefixes }
-        ensures ok { OnOk result (Gathers S.wrote self.old
-            ((L.style style.now).line_with plan.now.table file item.now text.now) self.new) }
-        ensures prefixes { ArePrefixesOf (L.prefix style.now plan.now file) draft.new.prefixes }
-    {
-        if self.place_line(style, draft, plan, file, item, text) {
-            return Ok(());
-        }
-        self.gather_line(style, block, plan, file, &item.item(), text)
-    }
-
-    // Gathers the line of an item of a file.
+    // Gathers the line of an item whose text is in these bytes, which begin at position `base` of the file.
     fn gather_item<L: LineStyle>(
         &mut self,
         style: &L,
@@ -177,17 +132,21 @@ impl<S: LineSink> Gathering<S> {
         plan: &Plan,
         file: u32,
         item: &FlatItem,
+        bytes: &[u8],
+        base: usize,
     ) -> Result<(), ReaderFault>
-        requires file { file < files_of plan.now }
-        requires item { IsItemOf (kinds_of plan.now) (bytes_of plan.now file) item.now }
+        requires text { LiesAt bytes.now base item.now }
+        requires named { NamesKindAmong (kinds_of plan.now) item.now }
         ensures ok { OnOk result (Gathers S.wrote self.old
-            ((L.style style.now).line plan.now file item.now) self.new) }
+            ((L.style style.now).line_with plan.now.table file item.now
+            (text_at bytes.now base item.now)) self.new) }
         ensures part { IfErr result (λ fault. WrotePart (Gathers S.wrote) self.old fault
-            ((L.style style.now).line plan.now file item.now) self.new) }
+            ((L.style style.now).line_with plan.now.table file item.now
+            (text_at bytes.now base item.now)) self.new) }
     {
-        let item = item.item();
-        let text = item.text(plan.bytes(file));
-        self.gather_line(style, block, plan, file, &item, text)
+        let from = item.start() - base;
+        let text = &bytes[from..from + item.len()];
+        self.gather_line(style, block, plan, file, &item.item(), text)
     }
 
     // Gathers the lines of the first items: all those that can be placed at once, or one that can't. Returns their number.
@@ -198,48 +157,56 @@ impl<S: LineSink> Gathering<S> {
         plan: &Plan,
         file: u32,
         items: &[FlatItem],
+        bytes: &[u8],
+        base: usize,
     ) -> Result<usize, ReaderFault>
         requires some { 0 < length items.now }
         requires draft { draft.old.plan ≡ plan.now }
-        requires file { file < files_of plan.now }
-        requires items { All (IsItemOf (kinds_of plan.now) (bytes_of plan.now file)) items.now }
+        requires texts { All (LiesAt bytes.now base) items.now }
+        requires named { All (NamesKindAmong (kinds_of plan.now)) items.now }
         ensures draft { draft.new ≡ draft.old }
         ensures some { IfOk result (λ count. 0 < count) }
         ensures few { IfOk result (λ count. count ≤ length items.now) }
         ensures ok { IfOk result (λ count. Gathers S.wrote self.old
-            (lines_by (L.style draft.old.style) plan.now file (take count items.now)) self.new) }
+            (lines_at (L.style draft.old.style) plan.now.table file bytes.now base
+            (take count items.now)) self.new) }
         ensures part { IfErr result (λ fault. WrotePart (Gathers S.wrote) self.old fault
-            (lines_by (L.style draft.old.style) plan.now file items.now) self.new) }
+            (lines_at (L.style draft.old.style) plan.now.table file bytes.now base items.now)
+            self.new) }
     {
-        let count = draft.place_lines(&mut self.held, plan, file, items);
+        let count = draft.place_lines(&mut self.held, plan, file, items, bytes, base);
         if count == 0 {
-            self.gather_item(draft.style(), block, plan, file, &items[0])?;
+            self.gather_item(draft.style(), block, plan, file, &items[0], bytes, base)?;
             return Ok(1);
         }
         Ok(count)
     }
 
-    // Gathers the lines of items.
-    fn gather_items<L: LineStyle>(
+    /// Gathers the lines of items. Their texts are in these bytes, which begin at position `base` of the file. Only the tables of the plan count.
+    pub(crate) fn gather_items<L: LineStyle>(
         &mut self,
         block: &mut Vec<u8>,
         draft: &mut PlanDraft<L>,
         plan: &Plan,
         file: u32,
         items: &[FlatItem],
+        bytes: &[u8],
+        base: usize,
     ) -> Result<(), ReaderFault>
         requires draft { draft.old.plan ≡ plan.now }
-        requires file { file < files_of plan.now }
-        requires items { All (IsItemOf (kinds_of plan.now) (bytes_of plan.now file)) items.now }
+        requires texts { All (LiesAt bytes.now base) items.now }
+        requires named { All (NamesKindAmong (kinds_of plan.now)) items.now }
         ensures draft { draft.new ≡ draft.old }
         ensures ok { OnOk result (Gathers S.wrote self.old
-            (lines_by (L.style draft.old.style) plan.now file items.now) self.new) }
+            (lines_at (L.style draft.old.style) plan.now.table file bytes.now base items.now)
+            self.new) }
         ensures part { IfErr result (λ fault. WrotePart (Gathers S.wrote) self.old fault
-            (lines_by (L.style draft.old.style) plan.now file items.now) self.new) }
+            (lines_at (L.style draft.old.style) plan.now.table file bytes.now base items.now)
+            self.new) }
     {
         let mut done = 0;
         while done < items.len() {
-            done += self.gather_some(block, draft, plan, file, &items[done..])?;
+            done += self.gather_some(block, draft, plan, file, &items[done..], bytes, base)?;
         }
         Ok(())
     }
@@ -277,7 +244,7 @@ impl<S: LineSink> LineSink for Gathering<S> {
         file: u32,
         items: &[FlatItem],
     ) -> Result<(), ReaderFault> {
-        self.gather_items(block, draft, plan, file, items)
+        self.gather_items(block, draft, plan, file, items, plan.bytes(file), 0)
     }
 
     ghost wrote_nothing = { gathers_nothing S.wrote S.wrote_nothing };

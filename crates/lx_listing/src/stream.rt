@@ -4,7 +4,6 @@ ghost use Rattle.std.specs.Prelude.{◌≡◌, [], ◌++◌, ℕ, All, IfErr, If
 ghost use Rattle.lx_scan.specs.ItemParts.{NamesKindAmong};
 ghost use Rattle.lx_scan.specs.Streams.{IsDrained, IsFedOf, IsKept, IsOver, first_stream};
 ghost use Rattle.lx_piece.specs.Plans.{Planned, bytes_of, input_of, kinds_of};
-ghost use Rattle.lx_line.specs.Prefixes.{ArePrefixesOf};
 ghost use Rattle.lx_listing.specs.Gathered.{Gathered, Gathers, gathered};
 ghost use Rattle.lx_listing.specs.Lines.{file_lines_by, lines_by};
 ghost use Rattle.lx_listing.specs.Streamed.{HasLines, IsPrompt, IsScanning, ListsGiven};
@@ -12,7 +11,7 @@ ghost use Rattle.lx_listing.specs.Streamed.{HasLines, IsPrompt, IsScanning, List
 use crate::gathering::Gathering;
 use crate::shown_lines::write_cut;
 use crate::sink::LineSink;
-use lx_line::{Draft, LineBuffer, LineStyle};
+use lx_line::{LineBuffer, LineStyle, PlanDraft};
 use lx_piece::{Plan, ReaderFault, plans_are_well_formed};
 use lx_scan::lines::items_have_their_lines;
 use lx_scan::{BlockScanner, FlatItem, ItemList};
@@ -43,10 +42,9 @@ pub struct StreamLines<'p, L: LineStyle, S: LineSink> {
     alloc: Global,
     // Only its tables count.
     plan: &'p Plan,
-    style: L,
     file: u32,
-    // Ready parts of the file's lines.
-    draft: Draft,
+    // The style, and ready parts of the lines.
+    draft: PlanDraft<L>,
     scanner: BlockScanner,
     // Scratch memory: their contents mean nothing.
     items: ItemList,
@@ -56,63 +54,57 @@ pub struct StreamLines<'p, L: LineStyle, S: LineSink> {
 
 impl<'p, L: LineStyle, S: LineSink> Model for StreamLines<'p, L, S> {
     ghost use Rattle.std.specs.Prelude.{◌≡◌, false};
-    ghost use Rattle.lx_line.specs.Prefixes.{ArePrefixesOf};
     ghost use Rattle.lx_listing.specs.Streamed.{IsScanning, Streamed};
 
     ghost Value = { Streamed L S };
 
     ghost view = { λ s. record
-        { style = s.style; plan = s.plan.now; file = s.file; stream = s.scanner; sink = s.sink } };
+        { style = s.draft.style; plan = s.plan.now; file = s.file; stream = s.scanner; sink = s.sink } };
 
     ghost invariant = { λ s.
         IsScanning s.plan.now.table s.scanner × (s.scanner.has_ended ≡ false)
-        × ArePrefixesOf (L.prefix s.style s.plan.now s.file) s.draft.prefixes };
+        × (s.draft.plan ≡ s.plan.now) };
 }
 
 // Gathers the lines of items that a scanner keeps.
 fn write_kept<L: LineStyle, S: LineSink>(
-    style: &L,
+    draft: &mut PlanDraft<L>,
     plan: &Plan,
     file: u32,
-    draft: &mut Draft,
     scanner: &BlockScanner,
     items: &[FlatItem],
     block: &mut Vec<u8>,
     sink: &mut Gathering<S>,
 ) -> Result<(), ReaderFault>
+    requires draft { draft.old.plan ≡ plan.now }
     requires kept { All (IsKept scanner.now) items.now }
     requires named { All (NamesKindAmong (kinds_of plan.now)) items.now }
-    requires prefixes { ArePrefixesOf (L.prefix style.now plan.now file) draft.old.prefixes }
-    ensures prefixes { ArePrefixesOf (L.prefix style.now plan.now file) draft.new.prefixes }
+    ensures draft { draft.new ≡ draft.old }
     ensures lines { OnOk result ((whole : Planned) (rest : List ℕ) → whole.table ≡ plan.now.table
         → IsFedOf scanner.now (bytes_of whole file) rest → Gathers S.wrote sink.old
-        (lines_by (L.style style.now) whole file items.now) sink.new) }
+        (lines_by (L.style draft.old.style) whole file items.now) sink.new) }
 {
-    for item in items {
-        let text = scanner.text(item.item());
-        sink.gather_drafted(style, draft, block, plan, file, item, text)?;
-    }
-    Ok(())
+    let (bytes, base) = scanner.bytes();
+    sink.gather_items(block, draft, plan, file, items, bytes, base)
 }
 
 // Gathers the lines of all items that are decided.
 fn write_decided<L: LineStyle, S: LineSink>(
-    style: &L,
+    draft: &mut PlanDraft<L>,
     plan: &Plan,
     file: u32,
-    draft: &mut Draft,
     scanner: &mut BlockScanner,
     items: &mut ItemList,
     block: &mut Vec<u8>,
     sink: &mut Gathering<S>,
 ) -> Result<(), ReaderFault>
+    requires draft { draft.old.plan ≡ plan.now }
     requires scanning { IsScanning plan.now.table scanner.old }
-    requires prefixes { ArePrefixesOf (L.prefix style.now plan.now file) draft.old.prefixes }
-    ensures prefixes { ArePrefixesOf (L.prefix style.now plan.now file) draft.new.prefixes }
+    ensures draft { draft.new ≡ draft.old }
     ensures scanning { IsScanning plan.now.table scanner.new }
     ensures end { scanner.new.has_ended ≡ scanner.old.has_ended }
-    ensures lists { OnOk result (ListsGiven S.wrote (L.style style.now) file scanner.old sink.old
-        scanner.new sink.new) }
+    ensures lists { OnOk result (ListsGiven S.wrote (L.style draft.old.style) file scanner.old
+        sink.old scanner.new sink.new) }
     ensures over { OnOk result (IsOver scanner.new) }
     ensures drained { OnOk result (IsDrained scanner.new) }
 {
@@ -125,16 +117,7 @@ fn write_decided<L: LineStyle, S: LineSink>(
         let Ok(()) = scanner.next_items(plan.tables(), AT_ONCE, items) else {
             return Err(ReaderFault::Memory);
         };
-        write_kept(
-            style,
-            plan,
-            file,
-            draft,
-            scanner,
-            items.as_slice(),
-            block,
-            sink,
-        )?;
+        write_kept(draft, plan, file, scanner, items.as_slice(), block, sink)?;
         is_full = items.len() == AT_ONCE;
     }
     Ok(())
@@ -160,13 +143,11 @@ impl<'p, L: LineStyle, S: LineSink> StreamLines<'p, L, S> {
         let Ok(held) = LineBuffer::new(alloc) else {
             return Err(AllocFailed { value: sink });
         };
-        let draft = Draft::new(&style, plan, 0);
         Ok(StreamLines {
             alloc,
             plan,
-            style,
             file: 0,
-            draft,
+            draft: PlanDraft::new(style, plan),
             scanner: BlockScanner::new(alloc, plan.tables()),
             items: ItemList::new(alloc),
             block: Vec::new(alloc),
@@ -179,7 +160,6 @@ impl<'p, L: LineStyle, S: LineSink> StreamLines<'p, L, S> {
         ensures { self.new ≡ record self.old { file = file } }
     {
         self.file = file;
-        self.draft.begin(&self.style, self.plan, file);
     }
 
     /// Ends the file after the bytes that were taken: writes the lines of its last items, and the cut line if its reading failed. Then it is before the
@@ -199,10 +179,9 @@ impl<'p, L: LineStyle, S: LineSink> StreamLines<'p, L, S> {
     {
         self.scanner.end();
         let answer = write_decided(
-            &self.style,
+            &mut self.draft,
             self.plan,
             self.file,
-            &mut self.draft,
             &mut self.scanner,
             &mut self.items,
             &mut self.block,
@@ -211,7 +190,7 @@ impl<'p, L: LineStyle, S: LineSink> StreamLines<'p, L, S> {
         self.scanner = BlockScanner::new(self.alloc, self.plan.tables());
         answer?;
         write_cut(
-            &self.style,
+            self.draft.style(),
             &mut self.sink,
             &mut self.block,
             self.file,
@@ -229,7 +208,6 @@ impl<'p, L: LineStyle, S: LineSink> StreamLines<'p, L, S> {
         let StreamLines {
             alloc: _alloc,
             plan: _plan,
-            style: _style,
             file: _file,
             draft: _draft,
             scanner: _scanner,
@@ -252,10 +230,9 @@ impl<'p, L: LineStyle, S: LineSink> BlockTaker for StreamLines<'p, L, S> {
             return Err(ReaderFault::Memory);
         };
         write_decided(
-            &self.style,
+            &mut self.draft,
             self.plan,
             self.file,
-            &mut self.draft,
             &mut self.scanner,
             &mut self.items,
             &mut self.block,

@@ -1,16 +1,15 @@
 use Rattle.std.proofs.Common.{◌≡◌, ◌+◌, false, if◌then◌else◌, length}
 use Rattle.lx_scan.specs.Streams.{IsDrained, IsOver, left_in}
 use Rattle.lx_scan.proofs.Streaming.{text_ahead}
-use Rattle.lx_line.specs.Prefixes.{ArePrefixesOf}
 use Rattle.lx_listing.specs.Streamed.{IsScanning, ListsGiven}
 use Rattle.lx_listing.proofs.stream.write_decided.Given as goal
 
 abbrev pub invariant-further : goal.invariant-further
 invariant-further g l = record {
-  prefixes : ArePrefixesOf (g.L.LinePrefix.prefix l.style l.plan l.file) l.draft.prefixes;
+  draft : l.draft ≡ l.fn.draft;
   scanning : IsScanning l.plan.table l.scanner;
   end : l.scanner.has_ended ≡ l.fn.scanner.has_ended;
-  lists : ListsGiven g.S.LineSink.wrote (g.L.LineStyle.style l.style) l.file l.fn.scanner l.fn.sink l.scanner l.sink;
+  lists : ListsGiven g.S.LineSink.wrote (g.L.LineStyle.style l.fn.draft.style) l.file l.fn.scanner l.fn.sink l.scanner l.sink;
   over : l.is_full ≡ false → IsOver l.scanner;
   drained : l.is_full ≡ false → IsDrained l.scanner;
 }
