@@ -1,21 +1,21 @@
 -- A line in JSON of its parts.
-use Rattle.std.proofs.Common.{◌≡◌, ℕ, ◌+◌, ◌-◌, Bool, true, false, if◌then◌else◌, List, [], ◌++◌, take, drop, refl, sym, ◌∙◌, ap, arith, append_assoc}
+use Rattle.std.proofs.Common.{◌≡◌, ℕ, Bool, true, false, if◌then◌else◌, List, [], ◌++◌, take, drop, refl, sym, ◌∙◌, ap, append_assoc}
 use Rattle.std.specs.Prelude.{Option, codes, decimal}
 use Rattle.std.specs.Str.{is_utf8}
 use Rattle.lx_rules.specs.declared.rule.Kind.{Kind}
 use Rattle.lx_scan.specs.declared.item.Item.{Item}
 use Rattle.lx_scan.specs.declared.item.Item.TheVariants.{Token, Echo}
-use Rattle.lx_scan.specs.ItemParts.{kind_of_item, line_of as line_number, start_of, len_of, text_of}
-use Rattle.lx_piece.specs.Plans.{Planned, bytes_of}
+use Rattle.lx_scan.specs.ItemParts.{kind_of_item, line_of as line_number, start_of, len_of}
+use Rattle.lx_piece.specs.Plans.{Planned}
 use Rattle.lx_line.specs.Placed.{Placed}
 use Rattle.lx_line.proofs.Places.{Placed-is, Placed-then}
 use Rattle.lx_forms.specs.Forms.{PlainForm}
 use Rattle.lx_forms.specs.FormStyles.{prefix_by, prefix_in}
 use Rattle.lx_forms.specs.JsonFields.{numbers_text, string_member}
-use Rattle.lx_forms.specs.JsonLines.{bytes_member, file_members, json_line, json_line_with, kind_value, text_member}
+use Rattle.lx_forms.specs.JsonLines.{bytes_member, file_members, json_line_with, kind_value, text_member}
 use Rattle.lx_forms.specs.declared.format.Format.{Format}
 use Rattle.lx_forms.specs.declared.format.Format.TheVariants.{Json}
-use Rattle.lx_forms.specs.JsonParts.{json_prefix, rest_of_line, rest_with}
+use Rattle.lx_forms.specs.JsonParts.{json_prefix, rest_with}
 
 -- the parts of a line, with its prefix by itself
 regrouped : (file sort key line s start n len text end : List ℕ) →
@@ -31,10 +31,6 @@ prefix_and_rest form plan file (Echo line start len) text =
     regrouped (file_members form file) (codes ",\"echo\":true") (codes ",\"line\":") (decimal line) (codes ",\"start\":") (decimal start) (codes ",\"len\":") (decimal len)
     (text_member form text) (codes "}\n")
 
-prefix_and_rest_of : (form : PlainForm) (plan : Planned) (file : ℕ) (item : Item) → json_prefix form plan file (kind_of_item item) ++ rest_of_line form plan file item ≡ json_line form plan file item
-unfolding json_line
-prefix_and_rest_of form plan file item = prefix_and_rest form plan file item (text_of (bytes_of plan file) item)
-
 -- both after other bytes
 pub line_pushed : (before q new : List ℕ) (form : PlainForm) (plan : Planned) (file : ℕ) (item : Item) (text : List ℕ) → q ≡ before ++ json_prefix form plan file (kind_of_item item) → new ≡ q ++ rest_with form item text →
     new ≡ before ++ json_line_with form plan.table file item text
@@ -49,53 +45,25 @@ member_is : (printed : Bool) (text : List ℕ) → (printed ≡ true → is_utf8
 member_is false text h = refl
 member_is true text h = rw (h refl) refl
 
-text_same : (bytes : List ℕ) (start len : ℕ) → take len (drop start bytes) ≡ take (start + len - start) (drop start bytes)
-text_same bytes start len = ap (λ (n : ℕ). take n (drop start bytes)) (let e : len ≡ start + len - start = omega arith in e)
-
 -- the part after the prefix, by the numbers of the item
-rest_is : (form : PlainForm) (plan : Planned) (file : ℕ) (item : Item) (line start len : ℕ) (bytes : List ℕ) → (form.text ≡ true → is_utf8 (take len (drop start bytes)) ≡ true) → line ≡ line_number item → start ≡ start_of item → len ≡ len_of item → bytes ≡ bytes_of plan file →
-    numbers_text line start len ++ (string_member form.text (take len (drop start bytes)) ++ codes "}\n") ≡ rest_of_line form plan file item
-rest_is form plan file item line start len bytes utf8 l s n t =
-    let text = take len (drop start bytes) in
-    let numbers = numbers_text (line_number item) (start_of item) (len_of item) in
-    let bs = bytes_of plan file in
-    ap (λ (m : List ℕ). numbers_text line start len ++ (m ++ codes "}\n")) (member_is form.text text utf8)
-    ∙ ap (λ (k : ℕ). numbers_text k start len ++ (text_member form text ++ codes "}\n")) l
-    ∙ ap (λ (k : ℕ). numbers_text (line_number item) k len ++ (text_member form (take len (drop k bytes)) ++ codes "}\n")) s
-    ∙ ap (λ (k : ℕ). numbers_text (line_number item) (start_of item) k ++ (text_member form (take k (drop (start_of item) bytes)) ++ codes "}\n")) n
-    ∙ ap (λ (k : List ℕ). numbers ++ (text_member form (take (len_of item) (drop (start_of item) k)) ++ codes "}\n")) t
-    ∙ ap (λ (k : List ℕ). numbers ++ (text_member form k ++ codes "}\n")) (text_same bs (start_of item) (len_of item))
-    ∙ sym (append_assoc numbers (text_member form (text_of bs item)) (codes "}\n"))
-
--- the same with this text
-rest_is_with : (form : PlainForm) (item : Item) (line start len : ℕ) (text : List ℕ) → (form.text ≡ true → is_utf8 text ≡ true) → line ≡ line_number item → start ≡ start_of item → len ≡ len_of item →
-    numbers_text line start len ++ (string_member form.text text ++ codes "}\n") ≡ rest_with form item text
-rest_is_with form item line start len text utf8 l s n =
+rest_is : (form : PlainForm) (item : Item) (line start len : ℕ) (bytes : List ℕ) (from : ℕ) → (form.text ≡ true → is_utf8 (take len (drop from bytes)) ≡ true) → line ≡ line_number item → start ≡ start_of item → len ≡ len_of item →
+    numbers_text line start len ++ (string_member form.text (take len (drop from bytes)) ++ codes "}\n") ≡ rest_with form item (take (len_of item) (drop from bytes))
+rest_is form item line start len bytes from utf8 l s n =
+    let text = take len (drop from bytes) in
     let numbers = numbers_text (line_number item) (start_of item) (len_of item) in
     ap (λ (m : List ℕ). numbers_text line start len ++ (m ++ codes "}\n")) (member_is form.text text utf8)
     ∙ ap (λ (k : ℕ). numbers_text k start len ++ (text_member form text ++ codes "}\n")) l
     ∙ ap (λ (k : ℕ). numbers_text (line_number item) k len ++ (text_member form text ++ codes "}\n")) s
-    ∙ ap (λ (k : ℕ). numbers_text (line_number item) (start_of item) k ++ (text_member form text ++ codes "}\n")) n
-    ∙ sym (append_assoc numbers (text_member form text) (codes "}\n"))
+    ∙ ap (λ (k : ℕ). numbers_text (line_number item) (start_of item) k ++ (text_member form (take k (drop from bytes)) ++ codes "}\n")) n
+    ∙ sym (append_assoc numbers (text_member form (take (len_of item) (drop from bytes))) (codes "}\n"))
 
-pub line_placed_with : {a b c d e : List ℕ} {at i j k end : ℕ} (form : PlainForm) (plan : Planned) (file : ℕ) (item : Item) (kind : Option Kind) (line start len : ℕ) (text : List ℕ) →
-    form.format ≡ Json → Placed a b at (prefix_in form plan file kind) i → Placed b c i (numbers_text line start len) j → Placed c d j (string_member form.text text) k → Placed d e k (codes "}\n") end →
-    (form.text ≡ true → is_utf8 text ≡ true) → kind ≡ kind_of_item item → line ≡ line_number item → start ≡ start_of item → len ≡ len_of item →
-    take end e ≡ take at a ++ json_line_with form plan.table file item text
-line_placed_with {a} {b} {c} {d} {e} {at} form plan file item kind line start len text json p q r s utf8 same l m n =
+pub line_placed : {a b c d e : List ℕ} {at i j k end : ℕ} (form : PlainForm) (plan : Planned) (file : ℕ) (item : Item) (kind : Option Kind) (line start len : ℕ) (bytes : List ℕ) (from : ℕ) →
+    form.format ≡ Json → Placed a b at (prefix_in form plan file kind) i → Placed b c i (numbers_text line start len) j → Placed c d j (string_member form.text (take len (drop from bytes))) k → Placed d e k (codes "}\n") end →
+    (form.text ≡ true → is_utf8 (take len (drop from bytes)) ≡ true) → kind ≡ kind_of_item item → line ≡ line_number item → start ≡ start_of item → len ≡ len_of item →
+    take end e ≡ take at a ++ json_line_with form plan.table file item (take (len_of item) (drop from bytes))
+line_placed {a} {b} {c} {d} {e} {at} form plan file item kind line start len bytes from json p q r s utf8 same l m n =
     let prefix = Placed-is p (ap (λ (format : Format). prefix_by format form plan file kind) json) in
     (Placed-then prefix (Placed-then q (Placed-then r s))).bytes
-    ∙ ap (λ (k : Option Kind). take at a ++ (json_prefix form plan file k ++ (numbers_text line start len ++ (string_member form.text text ++ codes "}\n")))) same
-    ∙ ap (λ (rest : List ℕ). take at a ++ (json_prefix form plan file (kind_of_item item) ++ rest)) (rest_is_with form item line start len text utf8 l m n)
-    ∙ ap (λ (bs : List ℕ). take at a ++ bs) (prefix_and_rest form plan file item text)
-
-pub line_placed : {a b c d e : List ℕ} {at i j k end : ℕ} (form : PlainForm) (plan : Planned) (file : ℕ) (item : Item) (kind : Option Kind) (line start len : ℕ) (bytes : List ℕ) →
-    form.format ≡ Json → Placed a b at (prefix_in form plan file kind) i → Placed b c i (numbers_text line start len) j → Placed c d j (string_member form.text (take len (drop start bytes))) k → Placed d e k (codes "}\n") end →
-    (form.text ≡ true → is_utf8 (take len (drop start bytes)) ≡ true) → kind ≡ kind_of_item item → line ≡ line_number item → start ≡ start_of item → len ≡ len_of item → bytes ≡ bytes_of plan file →
-    take end e ≡ take at a ++ json_line form plan file item
-line_placed {a} {b} {c} {d} {e} {at} form plan file item kind line start len bytes json p q r s utf8 same l m n t =
-    let prefix = Placed-is p (ap (λ (format : Format). prefix_by format form plan file kind) json) in
-    (Placed-then prefix (Placed-then q (Placed-then r s))).bytes
-    ∙ ap (λ (k : Option Kind). take at a ++ (json_prefix form plan file k ++ (numbers_text line start len ++ (string_member form.text (take len (drop start bytes)) ++ codes "}\n")))) same
-    ∙ ap (λ (rest : List ℕ). take at a ++ (json_prefix form plan file (kind_of_item item) ++ rest)) (rest_is form plan file item line start len bytes utf8 l m n t)
-    ∙ ap (λ (bs : List ℕ). take at a ++ bs) (prefix_and_rest_of form plan file item)
+    ∙ ap (λ (k : Option Kind). take at a ++ (json_prefix form plan file k ++ (numbers_text line start len ++ (string_member form.text (take len (drop from bytes)) ++ codes "}\n")))) same
+    ∙ ap (λ (rest : List ℕ). take at a ++ (json_prefix form plan file (kind_of_item item) ++ rest)) (rest_is form item line start len bytes from utf8 l m n)
+    ∙ ap (λ (bs : List ℕ). take at a ++ bs) (prefix_and_rest form plan file item (take (len_of item) (drop from bytes)))

@@ -13,7 +13,7 @@ abbrev pub numbers_text : ℕ → ℕ → ℕ → List ℕ
 numbers_text line start len = decimal line ++ codes ",\"start\":" ++ decimal start ++ codes ",\"len\":" ++ decimal len
 
 -- The text is short, and 16 bytes can be read after it. A printed text is also UTF-8.
-pub record IsShortText (printed : Bool) (start len : ℕ) (bytes : List ℕ) : Type 0 where
+pub record IsShortText (printed : Bool) (from len : ℕ) (bytes : List ℕ) : Type 0 where
   pub short : len ≤ 96
-  pub within : start + len + 16 ≤ length bytes
-  pub utf8 : printed ≡ true → is_utf8 (take len (drop start bytes)) ≡ true
+  pub within : from + len + 16 ≤ length bytes
+  pub utf8 : printed ≡ true → is_utf8 (take len (drop from bytes)) ≡ true

@@ -2,8 +2,8 @@
 use Rattle.std.specs.Prelude.{ℕ, List, ◌++◌, Option, Some, None, codes}
 use Rattle.lx_rules.specs.declared.rule.Kind.{Kind}
 use Rattle.lx_scan.specs.declared.item.Item.{Item}
-use Rattle.lx_scan.specs.ItemParts.{line_of as line_number, start_of, len_of, text_of}
-use Rattle.lx_piece.specs.Plans.{Planned, bytes_of}
+use Rattle.lx_scan.specs.ItemParts.{line_of as line_number, start_of, len_of}
+use Rattle.lx_piece.specs.Plans.{Planned}
 use Rattle.lx_forms.specs.Forms.{PlainForm}
 use Rattle.lx_forms.specs.JsonFields.{numbers_text}
 use Rattle.lx_forms.specs.JsonLines.{file_members, kind_value, text_member}
@@ -20,7 +20,3 @@ json_prefix form plan file kind = file_members form file ++ sort_text plan kind 
 -- the part after the prefix of the line of an item with this text
 abbrev pub rest_with : PlainForm → Item → List ℕ → List ℕ
 rest_with form item text = numbers_text (line_number item) (start_of item) (len_of item) ++ text_member form text ++ codes "}\n"
-
--- that of an item of a file
-abbrev pub rest_of_line : PlainForm → Planned → ℕ → Item → List ℕ
-rest_of_line form plan file item = rest_with form item (text_of (bytes_of plan file) item)

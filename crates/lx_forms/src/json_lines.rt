@@ -1,11 +1,10 @@
 //! Makes lines in JSON in a form.
 
-ghost use Rattle.std.specs.Prelude.{◌≡◌, ◌+◌, ◌*◌, ◌^◌, ◌<◌, ◌≤◌, ◌++◌, IsTrue, MatchOption, OnOk, codes, decimal, drop, length, take, true};
+ghost use Rattle.std.specs.Prelude.{◌≡◌, ◌+◌, ◌*◌, ◌^◌, ◌<◌, ◌≤◌, ◌++◌, IsTrue, MatchOption, OnOk, codes, decimal, drop, length, take};
 ghost use Rattle.std.specs.List.{flat_map};
-ghost use Rattle.std.specs.Str.{is_utf8};
 ghost use Rattle.lx_rules.specs.declared.rule.Kind.{Kind};
-ghost use Rattle.lx_scan.specs.ItemParts.{IsItemOf, IsKindAmong, NamesKindAmong};
-ghost use Rattle.lx_piece.specs.Plans.{bytes_of, kinds_of};
+ghost use Rattle.lx_scan.specs.ItemParts.{IsKindAmong, NamesKindAmong, len_of};
+ghost use Rattle.lx_piece.specs.Plans.{kinds_of};
 ghost use Rattle.lx_line.specs.Fields.{AreKept};
 ghost use Rattle.lx_line.specs.Placed.{Placed};
 ghost use Rattle.lx_line.specs.Prefixes.{ArePrefixesOf, IsKindOf};
@@ -13,7 +12,7 @@ ghost use Rattle.lx_forms.specs.declared.format.Format.{Format};
 ghost use Rattle.lx_forms.specs.Forms.{number_in};
 ghost use Rattle.lx_forms.specs.FormStyles.{prefix_in};
 ghost use Rattle.lx_forms.specs.JsonFields.{IsShortText, numbers_text, string_member};
-ghost use Rattle.lx_forms.specs.JsonLines.{bytes_member, file_members, hex_pair, json_cut_line, json_line, json_line_with, kind_value, name_member, string_of, text_member};
+ghost use Rattle.lx_forms.specs.JsonLines.{bytes_member, file_members, hex_pair, json_cut_line, json_line_with, kind_value, name_member, string_of, text_member};
 ghost use Rattle.lx_forms.specs.JsonParts.{json_prefix, rest_with, sort_text};
 ghost use Rattle.lx_forms.specs.Views.{form_view};
 
@@ -21,9 +20,8 @@ use crate::form::{Form, name_of};
 use crate::strings::{StringEscape, is_text, is_text_at, place_string, small_digit};
 use crate::style::FormStyle;
 use lx_line::{
-    Digits, Draft, Numbers, are_short, fits, kind_of, numbers_in, numbers_of, place_4, place_16,
-    place_all, place_any_text, place_byte, place_number, place_small, place_text, push_number,
-    push_text,
+    Digits, Draft, Numbers, fits, kind_of, numbers_in, numbers_of, place_4, place_16, place_all,
+    place_byte, place_number, place_small, place_text, push_number, push_text,
 };
 use lx_piece::Plan;
 use lx_rules::rule::Kind;
@@ -364,39 +362,41 @@ fn place_numbers(buf: &mut [u8], at: usize, digits: &Digits, numbers: Numbers) -
     place_small(buf, at, numbers.len)
 }
 
-// Places a text that is UTF-8, if texts are printed.
+// Places a text that is UTF-8, if texts are printed. It begins at position `from` of these bytes.
 #[inline(always)]
 fn place_printed(
     buf: &mut [u8],
     at: usize,
     is_printed: bool,
     bytes: &[u8],
-    numbers: Numbers,
+    from: usize,
+    len: usize,
 ) -> usize
-    requires text { numbers.start + numbers.len + 16 ≤ length bytes.now }
-    requires room { at + 6 * numbers.len + 26 ≤ length buf.old }
+    requires text { from + len + 16 ≤ length bytes.now }
+    requires room { at + 6 * len + 26 ≤ length buf.old }
     ensures placed { Placed buf.old buf.new at
-        (string_member is_printed (take numbers.len (drop numbers.start bytes.now))) result }
-    ensures short { result ≤ at + 6 * numbers.len + 10 }
+        (string_member is_printed (take len (drop from bytes.now))) result }
+    ensures short { result ≤ at + 6 * len + 10 }
 {
     if !is_printed {
         return at;
     }
     let at = place_16(buf, at, b",\"text\":\"       ", 0, 9);
-    let at = place_text::<StringEscape>(buf, at, bytes, numbers.start, numbers.len);
+    let at = place_text::<StringEscape>(buf, at, bytes, from, len);
     place_byte(buf, at, b'"')
 }
 
-// Returns true if the text is short enough and 16 bytes can be read after it. A printed text must also be UTF-8.
+// Returns true if a text of this length at position `from` of these bytes is short enough, and 16 bytes can be read after it. A printed text must
+// also be UTF-8.
 #[inline(always)]
-fn can_be_placed(is_printed: bool, numbers: Numbers, bytes: &[u8]) -> bool
-    requires { numbers.start + numbers.len ≤ length bytes.now }
-    ensures { IsTrue result → IsShortText is_printed numbers.start numbers.len bytes.now }
+fn can_be_placed(is_printed: bool, len: usize, bytes: &[u8], from: usize) -> bool
+    requires { from + len ≤ length bytes.now }
+    ensures { IsTrue result → IsShortText is_printed from len bytes.now }
 {
-    fits(numbers, bytes) && (!is_printed || is_text_at(bytes, numbers.start, numbers.len))
+    fits(len, bytes, from) && (!is_printed || is_text_at(bytes, from, len))
 }
 
-/// Places the line of an item from ready parts. Returns `None` if it needs the plain way.
+/// Places the line of an item from ready parts. Its text begins at position `from` of these bytes. Returns `None` if the line needs the plain way.
 #[inline(always)]
 pub(crate) fn place_json_line(
     style: &FormStyle<'_>,
@@ -405,89 +405,27 @@ pub(crate) fn place_json_line(
     at: usize,
     plan: &Plan,
     file: u32,
+    item: &FlatItem,
     bytes: &[u8],
-    item: &FlatItem,
+    from: usize,
 ) -> Option<usize>
     requires format { style.now.form.now.format ≡ Format.Json }
     requires room { at + 800 ≤ length buf.old }
-    requires bytes { bytes.now ≡ bytes_of plan.now file }
-    requires item { IsItemOf (kinds_of plan.now) (bytes_of plan.now file) item.now }
-    requires prefixes { ArePrefixesOf (prefix_in (form_view style.now.form.now) plan.now file)
-        draft.old.prefixes }
-    ensures placed { MatchOption result (buf.new ≡ buf.old) (λ end. take end buf.new
-        ≡ take at buf.old ++ json_line (form_view style.now.form.now) plan.now file item.now) }
-    ensures short { MatchOption result (Unit {0}) (λ end. end ≤ at + 800) }
-    ensures len { length buf.new ≡ length buf.old }
-    ensures prefixes { ArePrefixesOf (prefix_in (form_view style.now.form.now) plan.now file)
-        draft.new.prefixes }
-{
-    let numbers = numbers_in(item);
-    if !can_be_placed(style.form.text, numbers, bytes) || !draft.digits.follow(numbers) {
-        return None;
-    }
-    let Some(at) = draft
-        .prefixes
-        .place(style, buf, at, plan, file, item.label())
-    else {
-        return None;
-    };
-    let at = place_numbers(buf, at, &draft.digits, numbers);
-    let at = place_printed(buf, at, style.form.text, bytes, numbers);
-    Some(place_4(buf, at, b"}\n  ", 0, 2))
-}
-
-// Returns true if the text is short enough. A printed text must also be UTF-8.
-#[inline(always)]
-fn can_be_placed_with(is_printed: bool, numbers: Numbers, text: &[u8]) -> bool
-    ensures len { IsTrue result → numbers.len ≤ 96 }
-    ensures text { IsTrue result → length text.now ≤ 96 }
-    ensures utf8 { IsTrue result → is_printed ≡ true → is_utf8 text.now ≡ true }
-{
-    are_short(numbers, text) && (!is_printed || is_text(text))
-}
-
-// Places this text, which is UTF-8, if texts are printed.
-#[inline(always)]
-fn place_printed_text(buf: &mut [u8], at: usize, is_printed: bool, text: &[u8]) -> usize
-    requires { at + 6 * length text.now + 32 ≤ length buf.old }
-    ensures placed { Placed buf.old buf.new at (string_member is_printed text.now) result }
-    ensures short { result ≤ at + 6 * length text.now + 10 }
-{
-    if !is_printed {
-        return at;
-    }
-    let at = place_16(buf, at, b",\"text\":\"       ", 0, 9);
-    let at = place_any_text::<StringEscape>(buf, at, text);
-    place_byte(buf, at, b'"')
-}
-
-/// Places the line of an item with this text from ready parts. Returns `None` if it needs the plain way.
-#[inline(always)]
-pub(crate) fn place_json_line_with(
-    style: &FormStyle<'_>,
-    draft: &mut Draft,
-    buf: &mut [u8],
-    at: usize,
-    plan: &Plan,
-    file: u32,
-    item: &FlatItem,
-    text: &[u8],
-) -> Option<usize>
-    requires format { style.now.form.now.format ≡ Format.Json }
-    requires room { at + 800 ≤ length buf.old }
+    requires text { from + len_of item.now ≤ length bytes.now }
     requires item { NamesKindAmong (kinds_of plan.now) item.now }
     requires prefixes { ArePrefixesOf (prefix_in (form_view style.now.form.now) plan.now file)
         draft.old.prefixes }
     ensures placed { MatchOption result (buf.new ≡ buf.old) (λ end. take end buf.new
         ≡ take at buf.old ++ json_line_with (form_view style.now.form.now) plan.now.table file item.now
-        text.now) }
+        (take (len_of item.now) (drop from bytes.now))) }
     ensures short { MatchOption result (Unit {0}) (λ end. end ≤ at + 800) }
     ensures len { length buf.new ≡ length buf.old }
     ensures prefixes { ArePrefixesOf (prefix_in (form_view style.now.form.now) plan.now file)
         draft.new.prefixes }
 {
     let numbers = numbers_in(item);
-    if !can_be_placed_with(style.form.text, numbers, text) || !draft.digits.follow(numbers) {
+    let is_printed = style.form.text;
+    if !can_be_placed(is_printed, numbers.len, bytes, from) || !draft.digits.follow(numbers) {
         return None;
     }
     let Some(at) = draft
@@ -497,6 +435,6 @@ pub(crate) fn place_json_line_with(
         return None;
     };
     let at = place_numbers(buf, at, &draft.digits, numbers);
-    let at = place_printed_text(buf, at, style.form.text, text);
+    let at = place_printed(buf, at, is_printed, bytes, from, numbers.len);
     Some(place_4(buf, at, b"}\n  ", 0, 2))
 }

@@ -34,11 +34,6 @@ impl Escape for StringEscape {
         (is_escaped.to_bitmask() + 0x1_0000).trailing_zeros() as usize
     }
 
-    #[inline(always)]
-    fn is_plain(byte: u8) -> bool {
-        byte >= b' ' && byte != b'"' && byte != b'\\'
-    }
-
     fn place_shown(buf: &mut [u8], at: usize, byte: u8) -> usize {
         if byte == b'"' || byte == b'\\' {
             let at = place_byte(buf, at, b'\\');

@@ -4,12 +4,8 @@ ghost use Rattle.lx_forms.specs.Views.{form_view};
 
 use crate::form::Form;
 use crate::format::Format;
-use crate::json_lines::{
-    place_json_line, place_json_line_with, place_json_prefix, push_json_cut_line, push_json_line,
-};
-use crate::text_lines::{
-    place_text_line, place_text_line_with, place_text_prefix, push_text_cut_line, push_text_start,
-};
+use crate::json_lines::{place_json_line, place_json_prefix, push_json_cut_line, push_json_line};
+use crate::text_lines::{place_text_line, place_text_prefix, push_text_cut_line, push_text_start};
 use lx_line::{Draft, LinePrefix, LineStyle};
 use lx_piece::Plan;
 use lx_rules::rule::Kind;
@@ -60,35 +56,16 @@ impl<'a> LineStyle for FormStyle<'a> {
         at: usize,
         plan: &Plan,
         file: u32,
+        item: &FlatItem,
         bytes: &[u8],
-        item: &FlatItem,
+        from: usize,
     ) -> Option<usize> {
         if !self.form.passes_flat(item) {
             return Some(at);
         }
         match self.form.format {
-            Format::Lines => place_text_line(self, draft, buf, at, plan, file, bytes, item),
-            Format::Json => place_json_line(self, draft, buf, at, plan, file, bytes, item),
-        }
-    }
-
-    #[inline(always)]
-    fn place_line_with(
-        &self,
-        draft: &mut Draft,
-        buf: &mut [u8],
-        at: usize,
-        plan: &Plan,
-        file: u32,
-        item: &FlatItem,
-        text: &[u8],
-    ) -> Option<usize> {
-        if !self.form.passes_flat(item) {
-            return Some(at);
-        }
-        match self.form.format {
-            Format::Lines => place_text_line_with(self, draft, buf, at, plan, file, item, text),
-            Format::Json => place_json_line_with(self, draft, buf, at, plan, file, item, text),
+            Format::Lines => place_text_line(self, draft, buf, at, plan, file, item, bytes, from),
+            Format::Json => place_json_line(self, draft, buf, at, plan, file, item, bytes, from),
         }
     }
 
