@@ -109,7 +109,7 @@ const IDLE_NAMES: &[&[u8]] = &[
     b"noansi-prototypes",
 ];
 
-/// A value for `-C` that switches a word.
+/// Letters after `-C` that switch a word alone: `-f` also reads by read(2), and `-Cf` doesn't.
 const TABLE_LETTERS: &[(u8, &[u8])] = &[
     (b'r', b"read"),
     (b'f', b"full"),
@@ -183,7 +183,8 @@ fn take_table_letters<'a>(
         let mut known = false;
         for (table_letter, name) in TABLE_LETTERS {
             if *table_letter == *letter {
-                known = command.options.switch(*name, true, FilePlace::WHOLE)?;
+                command.options.put(*name, true, FilePlace::WHOLE)?;
+                known = true;
             }
         }
         if !known {

@@ -127,6 +127,7 @@ fn with_newline(reading: PatternReading) -> (Pattern, bool) {
         pattern,
         trailing,
         length: _length,
+        parts: _parts,
     } = reading;
     let Some(trailing) = trailing else {
         return (pattern, false);

@@ -219,7 +219,13 @@ impl FlexOptions {
         None
     }
 
-    fn put(&mut self, word: &'static [u8], on: bool, place: FilePlace) -> Result<(), AllocError> {
+    /// Switches a word alone, and none of those that it implies.
+    pub(crate) fn put(
+        &mut self,
+        word: &'static [u8],
+        on: bool,
+        place: FilePlace,
+    ) -> Result<(), AllocError> {
         self.switches.retain(|switch| switch.word != word);
         self.switches.push(Switch { word, on, place })?;
         Ok(())

@@ -22,6 +22,8 @@ pub enum ImportCause {
     Twice,
     #[error("there are more than 1,024 definitions, 63 start conditions, 4,096 rules or 64 nested scopes; split the file")]
     TooMany,
+    #[error("the patterns before this one have more than 262,144 parts; split the file")]
+    LargePatterns,
     #[error("flex has no such %option; delete the word")]
     UnknownOption,
     #[error("C++ scanners (%option c++, yyclass) are not supported; a C++ compiler takes the scanner in C, so delete the word")]

@@ -23,6 +23,9 @@ use lx_flex_pattern::{NamedPatterns, PatternFault, PatternReading, read_pattern}
 use lx_rules::limits::MAX_RULES;
 use std::alloc::{AllocError, Global};
 
+// Greatest number of parts that the patterns before a rule may have. An automaton within the limits takes far fewer.
+const MAX_PARTS_OF_FILE: u32 = 262_144;
+
 /// The action of a rule, as it is written.
 #[derive(Debug, Clone, Copy, PartialEq, Eq)]
 pub enum RuleAction {
@@ -70,6 +73,8 @@ struct Rules {
     code: Vec<CodeAfterRules>,
     /// True before the first rule. Indented lines are code then.
     prologue: bool,
+    /// Number of parts of the patterns.
+    parts: u32,
 }
 
 /// Returns the number of conditions.
@@ -344,11 +349,17 @@ fn read_rule(
     if rules.list.len() >= MAX_RULES {
         return stop(place, ImportCause::TooMany);
     }
+    if rules.parts > MAX_PARTS_OF_FILE {
+        return stop(place, ImportCause::LargePatterns);
+    }
     let start = read_rule_start(alloc, cursor, declared, names, reports)?;
     let action = read_action(cursor)?;
     let Some(reading) = start else {
         return Ok(());
     };
+    if let Some(reading) = &reading {
+        rules.parts = rules.parts.saturating_add(u32::from(reading.parts));
+    }
     let conditions = rules
         .scopes
         .conditions_inside(alloc, condition_count(declared), own)?;
@@ -634,6 +645,7 @@ pub(crate) fn read_rules(
         list: Vec::new(alloc),
         code: Vec::new(alloc),
         prologue: true,
+        parts: 0,
     };
     for _ in 0..cursor.text.len() {
         if is_section_end(cursor) {
@@ -647,6 +659,7 @@ pub(crate) fn read_rules(
         list,
         code,
         prologue: _,
+        parts: _,
     } = rules;
     match scopes.innermost_place() {
         Some(place) => stop(place, ImportCause::NotClosed),

@@ -33,14 +33,15 @@ use std::alloc::{AllocError, Global};
 /// Greatest number of bytes of a pattern in a file, including comments within `(?x:`.
 pub const MAX_FLEX_PATTERN_BYTES: usize = 4096;
 
-// Greatest number of parts of a pattern. With more, the printed pattern would be longer than lx accepts.
-const MAX_PARTS: u16 = 1024;
+// Greatest number of parts of a pattern, with its definitions written out. Trees are gone over by calls that are nested as deep as a chain of parts is
+// long, so the stack is the limit: a part takes some 300 bytes of it.
+const MAX_PARTS: u16 = 8192;
 
 // Greatest number of bytes that may be left after a definition's text was inserted.
 const MAX_INLINED_BYTES: usize = 8192;
 
 // Greatest number of definitions that are inserted for one pattern.
-const MAX_INLINED: u16 = 128;
+const MAX_INLINED: u16 = 1024;
 
 /// A pattern that was read.
 #[derive(Debug, Drop)]
@@ -51,6 +52,8 @@ pub struct PatternReading {
     pub trailing: Option<Expr>,
     /// Number of bytes of the pattern.
     pub length: usize,
+    /// Number of its parts, with definitions written out: bytes, brackets, parentheses, operators. It limits what a file takes.
+    pub parts: u16,
 }
 
 // The place of a part of a pattern: the text from there on, and the number of its first bytes that definitions inserted.
@@ -425,6 +428,7 @@ fn finished(
         },
         trailing,
         length: text.len() - last.text.len(),
+        parts: MAX_PARTS.saturating_sub(last.parts),
     })
 }
 
@@ -434,8 +438,8 @@ fn finished(
 /// it stood in parentheses in the place of its name, with the exceptions of flex. An interval with a bound above 255 is kept as several ones with the
 /// same texts, as `r{512}` as `(r{64}){8}`.
 ///
-/// Err: the cause if flex has no such pattern. A limit if it is too long: the text has at most 4,096 bytes, the pattern at most 1,024 parts, at most
-/// 128 definitions are expanded, a bound of an interval is at most 16,383, and an expression that is copied for one has at most 1,024 parts.
+/// Err: the cause if flex has no such pattern. A limit if it is too long: the text has at most 4,096 bytes, the pattern at most 8,192 parts, at most
+/// 1,024 definitions are expanded, a bound of an interval is at most 16,383, and an expression that is copied for one has at most 1,024 parts.
 pub fn read_pattern(
     alloc: Global,
     text: &[u8],

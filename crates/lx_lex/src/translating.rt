@@ -92,6 +92,7 @@ fn rule_of(
         pattern,
         trailing,
         length: _,
+        parts: _,
     } = reading;
     let Pattern {
         line_begin,

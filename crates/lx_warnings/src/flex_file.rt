@@ -62,6 +62,7 @@ fn rule_of(
             },
             trailing,
             length: 0,
+            parts: 0,
         }),
         action: RuleAction::Bar,
     }
@@ -135,6 +136,7 @@ pub fn warn_of_contexts(
                 pattern,
                 trailing: Some(context),
                 length: _,
+                parts: _,
             },
         ) = &rule.reading
         {
