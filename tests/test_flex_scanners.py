@@ -56,6 +56,14 @@ SCANNERS = [
     ("a hook that is defined among the rules", "%option noyywrap\n%%\n%{\n#undef YY_USER_ACTION\n#define YY_USER_ACTION printf(\"[%s]\", yytext);\n%}\na ;\nb printf(\"B\");\n" + MAIN,
      b"abab", b"[a][b]B[a][b]B"),
     ("code between rules", "%option noyywrap\n%%\na |\n  /* a comment */\nb printf(\"b\");\n<<EOF>> { printf(\"e\"); yyterminate(); }\n" + MAIN, b"ab", b"bbe"),
+    ("rules that the preprocessor leaves out", "%option noyywrap\n%%\na printf(\"A\");\n%{\n#ifdef LEFT_OUT\n%}\nb printf(\"B\");\n%{\n#else\n%}\nd printf(\"D\");\n%{\n#endif\n%}\nc printf(\"C\");\n" + MAIN,
+     b"acd\n", b"ACD\n"),
+    ("the first rule for the end of the input", "%option noyywrap\n%x A\n%%\na BEGIN(A);\n<A>b ;\n<<EOF>> { printf(\"all\"); yyterminate(); }\n<A><<EOF>> { printf(\"A\"); yyterminate(); }\n" + MAIN, b"ab", b"all"),
+    ("a condition's own rule for the end of the input", "%option noyywrap\n%x A\n%%\na BEGIN(A);\n<A>b ;\n<A><<EOF>> { printf(\"A\"); yyterminate(); }\n<<EOF>> { printf(\"all\"); yyterminate(); }\n" + MAIN, b"ab", b"A"),
+    ("a YY_INPUT that stores nothing", "%option noyywrap\n%{\n#define YY_INPUT(buf, result, size) result = 0\n%}\n%%\na printf(\"a\");\n" + MAIN, b"a", b""),
+    ("a pattern of 7,500 parts", "%option noyywrap\nW (abcdefgh|12345678){2}\n%%\n" + "|".join(["{W}"] * 330) + " printf(\"[%s]\", yytext);\n" + MAIN, b"abcdefgh12345678a", b"[abcdefgh12345678]a"),
+    ("a pattern of 4,000 bytes", "%option noyywrap\n%%\n" + "|".join(f"word{number}" for number in range(490)) + " printf(\"[%s]\", yytext);\n" + MAIN, b"word489word4", b"[word489][word4]"),
+    ("sizes of lex's tables", "%p 3000\n%a3000  \n%n\n%O text\n%option noyywrap\n%%\na printf(\"A\");\n" + MAIN, b"a", b"A"),
     ("a large interval in trailing context", "%option noyywrap nowarn\n%%\nx+/x{300} printf(\"[%d]\", (int)yyleng);\n" + MAIN, b"x" * 305, b"[5]" + b"x" * 300),
 ]
 # Rules whose actions use REJECT, their texts and what their scanners print; worked out by hand.
@@ -81,6 +89,12 @@ REFUSED = [
     ("an unknown option", "%option noyywrap  what\n%%\n", "x.l:1:19: error: flex has no such %option; delete the word"),
     ("a scanner in C++", "%option c++\n%%\n", "x.l:1:9: error: C++ scanners (%option c++, yyclass) are not supported; a C++ compiler takes the scanner in C, so delete the word"),
     ("an unknown condition", "%%\n<A>a ;\n", "x.l:2:2: error: the start condition isn't declared; declare it with %s or %x"),
+    ("a directive that is none", "%option noyywrap\n%case-insensitive\n%%\n", "x.l:2:1: error: flex has no such line among definitions; delete it"),
+    ("no name of a condition", "%stack\n%%\n", "x.l:1:7: error: flex has no such line among definitions; delete it"),
+    ("an unknown class", "%%\n[[:alpha:][:foo:]] ;\n", "x.l:2:1: error: the pattern: brackets name a class that flex doesn't have; write another one"),
+    ("a range from its end", "%%\n[^az-a] ;\n", "x.l:2:1: error: the pattern: a range in brackets ends before it begins; write another one"),
+    ("a pattern of many parts", "W (abcdefgh|12345678){2}\n%%\n" + "|".join(["{W}"] * 400) + " ;\n", "x.l:2:1: error: the pattern: the pattern is too long or too deep; write another one"),
+    ("patterns of many parts", "W (abcdefgh|12345678)\n%%\n" + ("|".join(["{W}"] * 360) + " ;\n") * 50, "x.l:37:1: error: the patterns before this one have more than 262,144 parts; split the file"),
     ("an open action", "%%\na {\n", "x.l:2:3: error: a comment, a code block, a scope or an action isn't closed; close it"),
     ("a bound that is too large", "%%\na{16384} ;\n", "x.l:2:1: error: the pattern: a bound of an interval is above 16383; write another one"),
     ("bounds in the wrong order", "%%\na{700,300} ;\n", "x.l:2:1: error: the pattern: the bounds of an interval are none that flex takes; write another one"),
@@ -189,6 +203,17 @@ class FlexScanners(Case):
         self.write("%option noyywrap noreject\n%%\na REJECT;\n" + MAIN)
         text = self.flex("-t", "x.l").stdout
         self.check("noreject", "REJECT reject_used_but_not_detected" in text)
+
+    def test_readers(self):
+        """Only those options read by read(2) that do so in flex: the others take what the program's own reading left in the stream."""
+        compiler = support.tool("gcc", "clang", "cc")
+        self.write("%option noyywrap\n%%\n[a-z]+ printf(\"<%s>\", yytext);\n[ \\n]+ ;\n%%\n"
+                   "int main(void) { char line[80]; if (fgets(line, sizeof line, stdin)) printf(\"%s\", line); while (yylex() != 0) { } return 0; }\n")
+        for words, by_stream in [([], True), (["-Cf"], True), (["-CF"], True), (["-Cfe"], True), (["-CFa"], True), (["-Cem"], True),
+                                 (["-f"], False), (["-F"], False), (["--full"], False), (["--fast"], False), (["-Cr"], False), (["-Cfr"], False)]:
+            self.expect(f"{words}: lx flex", self.flex(*words, "x.l").returncode, 0)
+            given = support.run(self.compiled(compiler, "-std=c99"), input=b"one\ntwo three\n").stdout
+            self.expect(f"{words}", given, b"one\n<two><three>" if by_stream else b"one\n")
 
     def test_variants(self):
         for options, words in VARIANTS:

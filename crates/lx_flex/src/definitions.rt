@@ -104,6 +104,9 @@ fn read_conditions(
     ensures few { OnOk result (vec_len declared.new.conditions < 65536) }
     ensures text { OnOk result (cursor.new.text.now ≡ cursor.old.text.now) }
 {
+    if trim_end(cursor.line_rest()).is_empty() {
+        reports.add(cursor.place(), ImportCause::BadDefinitionLine, true)?;
+    }
     for _ in cursor.line_rest() {
         cursor.skip_blanks();
         let rest = cursor.line_rest();
@@ -167,8 +170,8 @@ pub(crate) fn add_code(list: &mut Vec<TextRange>, code: TextRange) -> Result<(),
     Ok(())
 }
 
-/// Returns true if flex skips a line with this letter after its `%`.
-fn is_passed_over(letter: Option<u8>) -> bool {
+/// Returns true if a letter after `%` begins a line that flex skips, as that of a size of lex's tables.
+fn is_skipped_letter(letter: Option<u8>) -> bool {
     match letter {
         Some(letter) => matches!(
             letter.to_ascii_lowercase(),
@@ -176,6 +179,19 @@ fn is_passed_over(letter: Option<u8>) -> bool {
         ),
         None => false,
     }
+}
+
+/// Returns true if flex skips what follows such a letter: a number, or a blank and any text.
+fn is_skipped_rest(rest: &[u8]) -> bool {
+    if blank_run(rest) > 0 {
+        return true;
+    }
+    for byte in trim_end(rest) {
+        if !byte.is_ascii_digit() {
+            return false;
+        }
+    }
+    true
 }
 
 /// Returns the number of bytes of `%s` or `%x`, with the letters after it.
@@ -218,7 +234,7 @@ fn read_directive(
         let _known = declared
             .options
             .switch(b"array", letter == Some(b'a'), cursor.place())?;
-    } else if !is_passed_over(letter) {
+    } else if !is_skipped_letter(letter) || !is_skipped_rest(skip(2, cursor.line_rest())) {
         reports.add(cursor.place(), ImportCause::BadDefinitionLine, true)?;
     }
     cursor.skip_line();

@@ -7,6 +7,8 @@ use Rattle.lx_flex_pattern.specs.declared.fault.PatternFault.TheVariants as faul
 abbrev pub is_limit : PatternFault → Bool
 is_limit fault.NoForm = false
 is_limit fault.NotClosed = false
+is_limit fault.UnknownClass = false
+is_limit fault.BackwardRange = false
 is_limit fault.Undefined = false
 is_limit fault.BadInterval = false
 is_limit fault.LargeInterval = true

@@ -236,6 +236,42 @@ fn is_excluding(text: &[u8]) -> bool
     }
 }
 
+// Returns the fault of a text that flex doesn't read as a member of brackets.
+fn member_fault(text: &[u8]) -> PatternFault {
+    if text.is_empty() || begins_with(b'\n', text) {
+        return PatternFault::NotClosed;
+    }
+    if class_at(text).is_some() {
+        return PatternFault::UnknownClass;
+    }
+    if let Some((low, behind)) = point_at(text) {
+        if let Some((high, _)) = range_end_at(skip(1, behind)) {
+            if high < low {
+                return PatternFault::BackwardRange;
+            }
+        }
+    }
+    PatternFault::NoForm
+}
+
+/// Returns the fault of a text that flex doesn't read as brackets, starting after the `[`.
+pub(crate) fn brackets_fault(fold: bool, text: &[u8]) -> PatternFault {
+    let mut rest = if is_excluding(text) {
+        skip(1, text)
+    } else {
+        text
+    };
+    let mut first = true;
+    for _byte in text {
+        let Some((_member, behind)) = member_at(first, fold, rest) else {
+            break;
+        };
+        first = false;
+        rest = behind;
+    }
+    member_fault(rest)
+}
+
 // Returns true if a member has no clear meaning.
 fn are_ambiguous(members: &[BracketMember]) -> bool {
     members

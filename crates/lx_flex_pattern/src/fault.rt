@@ -12,6 +12,12 @@ pub enum PatternFault {
     /// A group, quotes or brackets aren't closed.
     #[error("a group, quotes or brackets aren't closed")]
     NotClosed,
+    /// A class in brackets that flex doesn't have.
+    #[error("brackets name a class that flex doesn't have")]
+    UnknownClass,
+    /// A range in brackets that ends before it begins.
+    #[error("a range in brackets ends before it begins")]
+    BackwardRange,
     /// A name in braces isn't defined.
     #[error("a name isn't defined")]
     Undefined,

@@ -10,7 +10,7 @@ ghost use Rattle.lx_flex_pattern.specs.Sets as sets;
 ghost use Rattle.lx_flex_pattern.specs.Spelling as spelling;
 
 use crate::bounds::Interval;
-use crate::brackets::{BracketSet, brackets_at};
+use crate::brackets::{BracketSet, brackets_at, brackets_fault};
 use crate::fault::PatternFault;
 use crate::flags::Flags;
 use crate::names::{NamedPattern, NamedPatterns};
@@ -387,19 +387,6 @@ fn joined<'t>(
     Ok(Piece::Goes(lexemes, state.waits(Pending::Brackets(next)), behind))
 }
 
-// Returns the fault of a text that flex doesn't read as brackets.
-fn brackets_fault(text: &[u8]) -> PatternFault {
-    for byte in text {
-        if *byte == b'\n' {
-            break;
-        }
-        if *byte == b']' {
-            return PatternFault::NoForm;
-        }
-    }
-    PatternFault::NotClosed
-}
-
 // Reads brackets, starting after the `[`.
 fn brackets_piece<'t>(
     alloc: Global,
@@ -411,7 +398,7 @@ fn brackets_piece<'t>(
     ensures err { IfErr result (λ fault. is_limit fault ≡ true) }
 {
     let Some((brackets, behind)) = brackets_at(alloc, state.flags.fold, text)? else {
-        return Ok(Piece::Wrong(brackets_fault(text)));
+        return Ok(Piece::Wrong(brackets_fault(state.flags.fold, text)));
     };
     joined(alloc, state, brackets, behind)
 }

@@ -75,37 +75,11 @@ fn is_among(numbers: &[u16], number: u16) -> bool {
     numbers.contains(&number)
 }
 
-/// Adds the conditions that are named by rules for the end of the input.
-fn named_at_end(alloc: Global, rules: &[RuleOutline]) -> Result<Vec<u16>, AllocError> {
-    let mut numbers = Vec::new(alloc);
-    for rule in rules {
-        if rule.pattern.is_none() {
-            if let Some(conditions) = &rule.conditions {
-                numbers.extend_from_slice(conditions.as_slice())?;
-            }
-        }
-    }
-    Ok(numbers)
-}
-
-/// The conditions whose action at the end of the input was printed.
-#[derive(Drop)]
-struct EndCases {
-    /// Conditions that a rule for the end of the input names.
-    named: Vec<u16>,
-    done: Vec<u16>,
-}
-
-impl EndCases {
-    /// Returns true if a rule is the first for the end of the input in this condition.
-    fn takes(&self, rule: &RuleOutline, number: u16) -> bool {
-        if is_among(self.done.as_slice(), number) {
-            return false;
-        }
-        match &rule.conditions {
-            Some(conditions) => is_among(conditions.as_slice(), number),
-            None => !is_among(self.named.as_slice(), number),
-        }
+/// Returns true if a rule for the end of the input is for this condition. Without a list of conditions it is for all (flex's manual, "End-of-File Rules").
+fn is_for(rule: &RuleOutline, number: u16) -> bool {
+    match &rule.conditions {
+        Some(conditions) => is_among(conditions.as_slice(), number),
+        None => true,
     }
 }
 
@@ -115,18 +89,18 @@ fn push_end_case(output: &mut Output, condition: &FlexCondition) -> Result<(), A
     output.push(b"):\n")
 }
 
-/// Appends the cases of a rule for the end of the input.
+/// Appends the cases of a rule for the end of the input: of its conditions that no rule before it took. `done` are the conditions that were taken.
 fn push_end_cases(
     output: &mut Output,
-    cases: &mut EndCases,
+    done: &mut Vec<u16>,
     conditions: &[FlexCondition],
     rule: &RuleOutline,
 ) -> Result<(), AllocError> {
     let mut number: u16 = 0;
     for condition in conditions {
-        if cases.takes(rule, number) {
+        if is_for(rule, number) && !is_among(done.as_slice(), number) {
             push_end_case(output, condition)?;
-            cases.done.push(number)?;
+            done.push(number)?;
         }
         number = number.saturating_add(1);
     }
@@ -136,13 +110,13 @@ fn push_end_cases(
 /// Appends the cases of the conditions without a rule for the end of the input.
 fn push_other_ends(
     output: &mut Output,
-    cases: &EndCases,
+    done: &[u16],
     conditions: &[FlexCondition],
 ) -> Result<(), AllocError> {
     let mut number: u16 = 0;
     let mut some = false;
     for condition in conditions {
-        if !is_among(cases.done.as_slice(), number) {
+        if !is_among(done, number) {
             push_end_case(output, condition)?;
             some = true;
         }
@@ -202,10 +176,7 @@ pub(crate) fn push_actions(
     outline: &FileOutline,
 ) -> Result<(), AllocError> {
     let conditions = outline.declared.conditions.as_slice();
-    let mut cases = EndCases {
-        named: named_at_end(alloc, outline.rules.as_slice())?,
-        done: Vec::new(alloc),
-    };
+    let mut done = Vec::new(alloc);
     let mut before: usize = 0;
     let mut number: u64 = 0;
     for rule in outline.rules.as_slice() {
@@ -220,7 +191,7 @@ pub(crate) fn push_actions(
             })?;
             push_number_then(&mut output.text, number, b":\n")?;
         } else {
-            push_end_cases(output, &mut cases, conditions, rule)?;
+            push_end_cases(output, &mut done, conditions, rule)?;
         }
         let before_end = match outline.rules.get(before) {
             Some(next) => next.pattern.is_none(),
@@ -229,6 +200,6 @@ pub(crate) fn push_actions(
         push_action(output, places, rule, before_end)?;
     }
     push_code_after(output, places, outline, before)?;
-    push_other_ends(output, &cases, conditions)?;
+    push_other_ends(output, done.as_slice(), conditions)?;
     places.push_return(output)
 }

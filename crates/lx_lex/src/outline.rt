@@ -223,6 +223,16 @@ impl FileOutline<'_> {
         Ok(follows)
     }
 
+    /// Returns true if code between the rules may leave out rules: if it has a directive of the preprocessor.
+    pub(crate) fn may_leave_out_rules(&self) -> bool {
+        for part in self.code.as_slice() {
+            if part.code.of(self.text).contains(&b'#') {
+                return true;
+            }
+        }
+        false
+    }
+
     /// Returns true if code among the rules may define what is done at each match: if it has a directive of the preprocessor.
     pub(crate) fn may_define_hooks(&self) -> bool {
         for code in self.first_code.as_slice() {
@@ -230,12 +240,7 @@ impl FileOutline<'_> {
                 return true;
             }
         }
-        for part in self.code.as_slice() {
-            if part.code.of(self.text).contains(&b'#') {
-                return true;
-            }
-        }
-        false
+        self.may_leave_out_rules()
     }
 
     /// Returns true if the rule at this place, counted from 0, has an action that does nothing. An action `|` goes on with the code of the file that

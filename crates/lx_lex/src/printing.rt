@@ -75,7 +75,9 @@ fn environment_of<'a>(
     let joins = outline.actions_have(b"yymore") && options.place_of(b"yymore").is_none();
     environment.add(b"yymore", joins)?;
     environment.add(b"reject", outline.has_reject())?;
-    environment.add(b"states", form == ScannerForm::States)?;
+    let in_states = form == ScannerForm::States;
+    environment.add(b"states", in_states)?;
+    environment.add(b"labels", in_states && !outline.may_leave_out_rules())?;
     Ok(environment)
 }
 
@@ -393,7 +395,7 @@ fn places_of<'a>(
         sources: options.sources,
         printed: options.printed,
         with_lines: environment.has(b"line"),
-        as_labels: environment.has(b"states"),
+        as_labels: environment.has(b"labels"),
     }
 }
 

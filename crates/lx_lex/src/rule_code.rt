@@ -174,6 +174,19 @@ fn push_default_match(
     output.push(b"goto yy_do_default;\n")
 }
 
+/// Appends the jump to the action of a rule: to its label, or to the choice by its number where the action may not be compiled.
+fn push_jump(
+    output: &mut Output,
+    environment: &Environment,
+    number: u64,
+) -> Result<(), AllocError> {
+    if !environment.has(b"labels") {
+        return output.push(b"goto yy_do_rule;\n");
+    }
+    output.push(b"goto yy_do_")?;
+    push_number_then(&mut output.text, number, b";\n")
+}
+
 /// Appends what is done where a walk through the states ends: the last place is found where a rule matched, and that rule's match is taken.
 pub(crate) fn push_matches(
     alloc: Global,
@@ -202,8 +215,7 @@ pub(crate) fn push_matches(
         output.end_line()?;
         let is_idle = may_skip && outline.is_idle(index, code_follows.as_slice());
         push_match(output, environment, number, pattern, is_idle)?;
-        output.push(b"goto yy_do_")?;
-        push_number_then(&mut output.text, number, b";\n")?;
+        push_jump(output, environment, number)?;
     }
     push_default_match(output, environment, number.saturating_add(1))
 }

@@ -486,7 +486,6 @@ static int yy_refill(@p)
     struct yyguts_t *yyg = (struct yyguts_t *)yyscanner;
 %end
     YY_BUFFER_STATE yy_buffer = YY_CURRENT_BUFFER_LVALUE;
-    char *yy_dest;
     int yy_kept, yy_room, yy_count = 0;
 
     if (yy_buffer->yy_buffer_status == YY_BUFFER_NEW) {
@@ -507,8 +506,7 @@ static int yy_refill(@p)
     if (yy_room > YY_READ_BUF_SIZE)
         yy_room = YY_READ_BUF_SIZE;
 
-    yy_dest = yy_buffer->yy_ch_buf + yy_kept;
-    YY_INPUT(yy_dest, @gyy_n_chars, yy_room); /* A program's YY_INPUT may read the number of bytes before it sets it. */
+    YY_INPUT((yy_buffer->yy_ch_buf + yy_kept), @gyy_n_chars, yy_room); /* A program's YY_INPUT may read the number of bytes before it sets it. */
     if (@gyy_n_chars > 0)
         yy_count = @gyy_n_chars;
     else

@@ -263,5 +263,8 @@ pub(crate) const STATE_STOP: &[u8] = br#"
             fprintf(stderr, "--EOF (start condition %d)\n", YY_START);
 %end
         yy_act = YY_STATE_EOF(YY_START);
+%if !labels
+    yy_do_rule: /* Code between the rules may leave out actions, so no jump names one. */
+%end
         switch (yy_act) {
 "#;
