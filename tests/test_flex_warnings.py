@@ -108,9 +108,18 @@ x.l:6:1: warning: rule cannot be matched: an earlier rule takes all its texts
 x.l:6:1: note: put it before what takes its texts, or delete it
 x.l:5:1: note: this rule takes them
 """),
+    ("two rules for the end of the input", "a ;\n<INITIAL><<EOF>> yyterminate();\n<INITIAL><<EOF>> return 1;\n<<EOF>> return 2;\n", """\
+x.l:5:10: warning: multiple <<EOF>> rules for a start condition: the first one is taken
+    5 | <INITIAL><<EOF>> return 1;
+      |          ^~~~~~~
+x.l:6:1: warning: all start conditions already have <<EOF>> rules
+    6 | <<EOF>> return 2;
+      | ^~~~~~~
+"""),
 ]
 # Rules of which none is warned.
 SILENT = [
+    ("a rule for each condition at the end of the input", "%x A B\n%%\na ;\n<A><<EOF>> return 1;\n<<EOF>> return 2;\n"),
     ("a longer text", "[a-z]+ ;\nif! ;\n"), ("another condition", "%x A\n%%\n[a-z]+ ;\n<A>if BEGIN 0;\n"), ("one of two conditions", "%x A\n%%\n[a-z]+ ;\n<INITIAL,A>if BEGIN 0;\n"),
     ("the start of a line first", "^a ;\na ;\n"), ("the end of a file", "a ;\n<<EOF>> return 0;\n"), ("a rule for the end beside another condition", "%x A\n%%\na ;\n<A><<EOF>> return 0;\n"),
     ("context that the earlier rule lacks", "a ;\na/b ;\n"), ("the end of a line", "a ;\na$ ;\n"), ("an interval in parentheses", "a(b{3}) ;\n(cd){2} ;\n"), ("an interval of a whole branch", "b{3} ;\n(c{2}|d{3})+ ;\n[ef]{2} ;\n\"g\"{2} ;\n"),

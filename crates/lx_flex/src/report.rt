@@ -88,6 +88,10 @@ pub enum ImportCause {
     DangerousContext,
     #[error("the token before its context can be empty: the scanner loops if the action neither changes the condition nor reads on")]
     EmptyToken,
+    #[error("multiple <<EOF>> rules for a start condition: the first one is taken")]
+    RepeatedEnd,
+    #[error("all start conditions already have <<EOF>> rules")]
+    UselessEnd,
     #[error("an interval repeats the unit before it in flex, and all before it in its branch in POSIX")]
     IntervalBinding {
         /// True if the command reads the pattern as POSIX does.
@@ -148,6 +152,8 @@ impl ImportCause {
                 | ImportCause::NeverMatched(_)
                 | ImportCause::DangerousContext
                 | ImportCause::EmptyToken
+                | ImportCause::RepeatedEnd
+                | ImportCause::UselessEnd
                 | ImportCause::IntervalBinding { posix: _ }
         )
     }

@@ -268,7 +268,39 @@ fn warn_of_rules(
     Ok(())
 }
 
-/// Adds warnings on rules that are never matched, and on a missing default rule.
+// Adds warnings on rules for the end of the input that earlier ones leave less than they ask for.
+fn warn_of_ends(
+    alloc: Global,
+    outline: &FileOutline<'_>,
+    reports: &mut Reports,
+) -> Result<(), AllocError> {
+    let mut left = Vec::new(alloc);
+    for number in 0..outline.declared.conditions.len() {
+        left.push(number as u16)?;
+    }
+    for rule in outline.rules.as_slice() {
+        if rule.pattern.is_some() {
+            continue;
+        }
+        let Some(conditions) = &rule.conditions else {
+            if left.is_empty() {
+                reports.warn(rule.place, ImportCause::UselessEnd)?;
+            }
+            left.clear();
+            continue;
+        };
+        for number in conditions.as_slice() {
+            if !left.contains(number) {
+                reports.warn(rule.place, ImportCause::RepeatedEnd)?;
+                break;
+            }
+        }
+        left.retain(|number| !conditions.contains(number));
+    }
+    Ok(())
+}
+
+/// Adds warnings on rules that are never matched, on those for the end of the input, and on a missing default rule.
 pub fn warn_of_tables(
     alloc: Global,
     outline: &FileOutline<'_>,
@@ -281,6 +313,7 @@ pub fn warn_of_tables(
         return Ok(());
     }
     warn_of_rules(alloc, outline, spec, tables, lists, reports)?;
+    warn_of_ends(alloc, outline, reports)?;
     let options = &outline.declared.options;
     if !options.is_on(b"default") && is_default_chosen(tables) {
         let place = options.place_of(b"default").unwrap_or(FilePlace::WHOLE);
