@@ -13,7 +13,7 @@ use Rattle.lx_lex.specs.Translation.{FileRule, IsScannerSpec}
 use Rattle.lx_lex.specs.declared.forms.ScannerForm.{ScannerForm}
 use Rattle.lx_rules.specs.Plain.{PlainSpec, StartCondition}
 use Rattle.lx_tables.specs.Model.{AreTablesOf, Table}
-use Rattle.lx_tool.specs.declared.scanner_help.TheConstants.{FLEX_HELP, LEX_HELP}
+use Rattle.lx_tool.specs.declared.scanner_help.TheConstants.{FLEX_HEAD, LEX_HEAD, SCANNER_OPTIONS}
 use Rattle.lx_tool.specs.Printing.{IsPlaced, IsWritten}
 
 -- ---- the words that ask for it
@@ -112,7 +112,7 @@ version_line = codes "flex 2.6.4 compatible, by lx " ++ VERSION.now ++ codes "\n
 
 -- the help of the command, or its version
 abbrev pub IsAnswer : Bool → List ℕ → Type 0
-IsAnswer posix said = (said ≡ (if posix then LEX_HELP.now else FLEX_HELP.now)) ⊎ (said ≡ version_line)
+IsAnswer posix said = (said ≡ (if posix then LEX_HEAD.now else FLEX_HEAD.now) ++ SCANNER_OPTIONS.now) ⊎ (said ≡ version_line)
 
 -- The help or the version was written, and no file was made.
 pub record IsAnswered {T : Type 0} (posix : Bool) (before after : T) (old new : Option (List ℕ)) : Type 0 where

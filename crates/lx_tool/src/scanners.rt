@@ -11,7 +11,7 @@ ghost use Rattle.lx_tool.specs.Scanners.{FindsLists, IsAnswer, IsAnswered, IsDon
 use crate::output::Output;
 use crate::remarks::tell_size;
 use crate::scanner_fault::ScannerFault;
-use crate::scanner_help::{FLEX_HELP, LEX_HELP};
+use crate::scanner_help::{FLEX_HEAD, LEX_HEAD, SCANNER_OPTIONS};
 use crate::scanner_input::{read_whole_text, source_names};
 use crate::scanner_making::{MadeScanner, made_of};
 use crate::source::Sources;
@@ -228,7 +228,11 @@ pub(crate) fn answer_of(
     ensures { IfOk result (λ text. IsAnswer posix text.items) }
 {
     match answer {
-        FlexAnswer::Help => Vec::from_slice(alloc, if posix { LEX_HELP } else { FLEX_HELP }),
+        FlexAnswer::Help => {
+            let mut text = Vec::from_slice(alloc, if posix { LEX_HEAD } else { FLEX_HEAD })?;
+            text.extend_from_slice(SCANNER_OPTIONS)?;
+            Ok(text)
+        }
         FlexAnswer::Version => {
             let mut text = Vec::from_slice(alloc, b"flex 2.6.4 compatible, by lx ")?;
             text.extend_from_slice(VERSION.as_bytes())?;
