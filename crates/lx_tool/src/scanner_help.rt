@@ -1,6 +1,6 @@
 //! The help of the commands `lex` and `flex`.
 
-/// What only the help of `flex` says.
+/// The first lines of the help of `flex`.
 pub(crate) const FLEX_HEAD: &[u8] =
     br#"Prints a scanner in C of a file for flex, with the C code of its actions.
 
@@ -8,7 +8,7 @@ Usage: lx flex [OPTIONS] [FILE..]
 
 "#;
 
-/// What only the help of `lex` says.
+/// The first lines of the help of `lex`.
 pub(crate) const LEX_HEAD: &[u8] =
     br#"Prints a scanner in C of a file for lex, with the C code of its actions.
 Patterns are those of POSIX: an interval repeats all that is before it in its branch.
