@@ -275,8 +275,10 @@ fn warn_of_ends(
     reports: &mut Reports,
 ) -> Result<(), AllocError> {
     let mut left = Vec::new(alloc);
-    for number in 0..outline.declared.conditions.len() {
-        left.push(number as u16)?;
+    let mut number: u16 = 0;
+    for _condition in outline.declared.conditions.as_slice() {
+        left.push(number)?;
+        number = number.saturating_add(1);
     }
     for rule in outline.rules.as_slice() {
         if rule.pattern.is_some() {
