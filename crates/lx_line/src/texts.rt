@@ -1,11 +1,11 @@
 //! Places texts, with bytes escaped.
 
-ghost use Rattle.std.specs.Prelude.{◌+◌, ◌*◌, ◌<◌, ◌≤◌, length, take, drop};
+ghost use Rattle.std.specs.Prelude.{◌≡◌, ◌+◌, ◌*◌, ◌<◌, ◌≤◌, ℕ, length, take, drop};
 ghost use Rattle.std.specs.List.{flat_map};
 ghost use Rattle.lx_line.specs.Placed.{Placed};
 
 use crate::escape::Escape;
-use crate::place::place_16;
+use crate::place::{place_16, put_16};
 
 // A placed part of a text: the position where it ends, and the number of text bytes in it.
 #[derive(Clone, Copy, Drop)]
@@ -14,33 +14,38 @@ struct PlacedPart {
     count: usize,
 }
 
-// Places up to 16 bytes as they are, and the first one that is escaped.
+// Places 16 bytes of a longer text of which some first ones are shown as they are: all of them, or those and what shows the next one. Where it's all,
+// the next place is known before they are counted.
 #[inline(always)]
 fn place_part<E: Escape>(
     buf: &mut [u8],
     at: usize,
     bytes: &[u8],
     from: usize,
-    most: usize,
+    plain: usize,
 ) -> PlacedPart
-    requires some { 0 < most }
-    requires text { from + most + 16 ≤ length bytes.now }
+    requires plain { (n : ℕ) → n ≤ plain
+        → flat_map E.shown (take n (drop from bytes.now)) ≡ take n (drop from bytes.now) }
+    requires few { plain ≤ 16 }
+    requires text { from + plain + 17 ≤ length bytes.now }
     requires room { at + 22 ≤ length buf.old }
     ensures placed { Placed buf.old buf.new at
         (flat_map E.shown (take result.count (drop from bytes.now))) result.end }
     ensures some { 0 < result.count }
-    ensures few { result.count ≤ most }
+    ensures few { result.count ≤ plain + 1 }
     ensures short { result.end ≤ at + 6 * result.count }
 {
-    let count = E::plain_16(bytes, from).min(most);
-    let end = place_16(buf, at, bytes, from, count);
-    if count == 16 || count == most {
-        return PlacedPart { end, count };
+    put_16(buf, at, bytes, from);
+    if plain == 16 {
+        return PlacedPart {
+            end: at + 16,
+            count: 16,
+        };
     }
-    let end = E::place_shown(buf, end, bytes[from + count]);
+    let end = E::place_shown(buf, at + plain, bytes[from + plain]);
     PlacedPart {
         end,
-        count: count + 1,
+        count: plain + 1,
     }
 }
 
@@ -56,7 +61,12 @@ fn place_long<E: Escape>(buf: &mut [u8], at: usize, bytes: &[u8], start: usize, 
     let mut done = 0;
     let mut end = at;
     while done < len {
-        let part = place_part::<E>(buf, end, bytes, start + done, len - done);
+        let plain = E::plain_16(bytes, start + done);
+        let left = len - done;
+        if left <= plain {
+            return place_16(buf, end, bytes, start + done, left);
+        }
+        let part = place_part::<E>(buf, end, bytes, start + done, plain);
         end = part.end;
         done += part.count;
     }
