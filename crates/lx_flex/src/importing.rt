@@ -12,7 +12,7 @@ use crate::definitions::{Declared, read_definitions};
 use crate::judging::{ImportedRule, JudgedRule, judge_first_code, judge_rules};
 use crate::naming::{ImportedDefinition, PatternNames, naming_of};
 use crate::options::FlexOptions;
-use crate::printing::{cases, specification};
+use crate::printing::{cases, code_kind, specification};
 use crate::report::{ImportCause, ImportFault, ImportReport, ReadFault, Reports, stop};
 use crate::rules::read_rules;
 use lx_rules::Condition;
@@ -104,9 +104,16 @@ fn draft_of(
     let raw = read_rules(alloc, &mut cursor, &declared, &names, reports)?;
     judge_first_code(alloc, text, &declared, raw.first_code.as_slice(), reports)?;
     let rules = judge_rules(alloc, text, &declared, raw.list, reports)?;
+    let kind = code_kind(alloc, rules.as_slice())?;
     Ok(ImportDraft {
-        specification: specification(alloc, &declared, definitions.as_slice(), rules.as_slice())?,
-        cases: cases(alloc, options, rules.as_slice())?,
+        specification: specification(
+            alloc,
+            &declared,
+            definitions.as_slice(),
+            rules.as_slice(),
+            kind.as_slice(),
+        )?,
+        cases: cases(alloc, options, rules.as_slice(), kind.as_slice())?,
         conditions: conditions_of(alloc, &declared)?,
         definitions,
         rules: rules_of(alloc, rules)?,

@@ -129,27 +129,65 @@ fn push_action_steps(
     push(text, b" }")
 }
 
+/// Returns the number of letters X between `RULE_` and a digit at the start of a kind. `None` if it begins otherwise.
+fn letters_of_rule(kind: &[u8]) -> Option<usize> {
+    let rest = kind.strip_prefix(b"RULE_")?;
+    let mut letters: usize = 0;
+    for byte in rest {
+        match *byte {
+            b'X' => letters = letters.saturating_add(1),
+            b'0'..=b'9' => return Some(letters),
+            _ => return None,
+        }
+    }
+    None
+}
+
+/// Returns what the kinds of C text begin with, before the number of the rule: `RULE_`. If actions return kinds that begin with it and a digit, more
+/// letters X come to it than they have there, so that each kind of C text is its own.
+pub(crate) fn code_kind(alloc: Global, rules: &[JudgedRule]) -> Result<Vec<u8>, AllocError> {
+    let mut more: usize = 0;
+    for judged in rules {
+        if let FlexAction::Steps(steps) = &judged.action {
+            for step in steps.as_slice() {
+                if let ActionStep::Return(kind) = step {
+                    if let Some(letters) = letters_of_rule(kind.as_slice()) {
+                        more = more.max(letters.saturating_add(1));
+                    }
+                }
+            }
+        }
+    }
+    let mut begin = Vec::from_slice(alloc, b"RULE_")?;
+    for _ in 0..more {
+        begin.push(b'X')?;
+    }
+    Ok(begin)
+}
+
 /// Appends the action for C text: the conditions that it begins unconditionally, and the rule's number as a kind.
 fn push_code(
     text: &mut Vec<u8>,
     conditions: &[FlexCondition],
     begins: &[ActionStep],
+    kind: &[u8],
     number: u32,
 ) -> Result<(), AllocError> {
     let mut digits = Buffer::new();
     let number = digits.format(number).as_bytes();
     if begins.is_empty() {
-        return push_all(text, &[b"return RULE_", number, b";"]);
+        return push_all(text, &[b"return ", kind, number, b";"]);
     }
     push(text, b"{ ")?;
     push_steps(text, conditions, begins)?;
-    push_all(text, &[b" return RULE_", number, b"; }"])
+    push_all(text, &[b" return ", kind, number, b"; }"])
 }
 
 fn push_action(
     text: &mut Vec<u8>,
     conditions: &[FlexCondition],
     action: &FlexAction,
+    kind: &[u8],
     number: u32,
 ) -> Result<(), AllocError> {
     match action {
@@ -160,7 +198,7 @@ fn push_action(
             line: _,
             begins,
             problems: _,
-        } => push_code(text, conditions, begins.as_slice(), number),
+        } => push_code(text, conditions, begins.as_slice(), kind, number),
     }
 }
 
@@ -168,22 +206,24 @@ fn push_rule(
     text: &mut Vec<u8>,
     conditions: &[FlexCondition],
     judged: &JudgedRule,
+    kind: &[u8],
     number: u32,
 ) -> Result<(), AllocError> {
     if let Some(numbers) = &judged.rule.conditions {
         push_list(text, conditions, numbers.as_slice())?;
     }
     push_all(text, &[judged.text.as_slice(), b"  "])?;
-    push_action(text, conditions, &judged.action, number)?;
+    push_action(text, conditions, &judged.action, kind, number)?;
     push(text, b"\n")
 }
 
-/// Prints the specification.
+/// Prints the specification. The kinds of C text begin with `kind`.
 pub(crate) fn specification(
     alloc: Global,
     declared: &Declared,
     definitions: &[ImportedDefinition],
     rules: &[JudgedRule],
+    kind: &[u8],
 ) -> Result<Vec<u8>, AllocError> {
     let conditions = declared.conditions.as_slice();
     let mut text = Vec::new(alloc);
@@ -193,7 +233,7 @@ pub(crate) fn specification(
     let mut number: u32 = 0;
     for rule in rules {
         number = number.saturating_add(1);
-        push_rule(&mut text, conditions, rule, number)?;
+        push_rule(&mut text, conditions, rule, kind, number)?;
     }
     Ok(text)
 }
@@ -224,11 +264,19 @@ fn push_file(text: &mut Vec<u8>, file: &[u8]) -> Result<(), AllocError> {
 }
 
 /// Appends the label of a rule's case.
-fn push_label(text: &mut Vec<u8>, prefix: &[u8], number: u32) -> Result<(), AllocError> {
+fn push_label(
+    text: &mut Vec<u8>,
+    prefix: &[u8],
+    kind: &[u8],
+    number: u32,
+) -> Result<(), AllocError> {
     let mut digits = Buffer::new();
     push(text, b"case ")?;
     push_prefix(text, prefix)?;
-    push_all(text, &[b"_RULE_", digits.format(number).as_bytes(), b":\n"])
+    push_all(
+        text,
+        &[b"_", kind, digits.format(number).as_bytes(), b":\n"],
+    )
 }
 
 /// Appends the `#line` directive with the file and the line of C text.
@@ -243,11 +291,12 @@ fn push_place(text: &mut Vec<u8>, file: &[u8], line: u32) -> Result<(), AllocErr
 fn push_case(
     text: &mut Vec<u8>,
     options: ImportOptions,
+    kind: &[u8],
     number: u32,
     line: u32,
     code: &[u8],
 ) -> Result<(), AllocError> {
-    push_label(text, options.prefix, number)?;
+    push_label(text, options.prefix, kind, number)?;
     push_place(text, options.file, line)?;
     push_all(text, &[code, b"\n    break;\n"])
 }
@@ -257,6 +306,7 @@ pub(crate) fn cases(
     alloc: Global,
     options: ImportOptions,
     rules: &[JudgedRule],
+    kind: &[u8],
 ) -> Result<Vec<u8>, AllocError> {
     let mut text = Vec::new(alloc);
     let mut number: u32 = 0;
@@ -269,7 +319,7 @@ pub(crate) fn cases(
             problems: _,
         } = &judged.action
         {
-            push_case(&mut text, options, number, *line, code.as_slice())?;
+            push_case(&mut text, options, kind, number, *line, code.as_slice())?;
         }
     }
     Ok(text)
