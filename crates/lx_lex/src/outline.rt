@@ -233,6 +233,38 @@ impl FileOutline<'_> {
         false
     }
 
+    /// Returns the condition in which a rule is active, if it is only one.
+    pub(crate) fn only_condition(&self, rule: &RuleOutline) -> Option<u16> {
+        match &rule.conditions {
+            Some(conditions) if conditions.len() == 1 => Some(conditions[0]),
+            Some(_) => None,
+            None if self.has_inclusive() => None,
+            None => Some(0),
+        }
+    }
+
+    /// Returns true if rules without a list of conditions are active elsewhere than in `INITIAL`.
+    fn has_inclusive(&self) -> bool {
+        let mut is_initial = true;
+        for condition in self.declared.conditions.as_slice() {
+            if !is_initial && !condition.exclusive {
+                return true;
+            }
+            is_initial = false;
+        }
+        false
+    }
+
+    /// Returns true if a rule has a pattern, so that something is done behind a match.
+    pub(crate) fn has_pattern(&self) -> bool {
+        for rule in self.rules.as_slice() {
+            if rule.pattern.is_some() {
+                return true;
+            }
+        }
+        false
+    }
+
     /// Returns true if code among the rules may define what is done at each match: if it has a directive of the preprocessor.
     pub(crate) fn may_define_hooks(&self) -> bool {
         for code in self.first_code.as_slice() {

@@ -77,7 +77,8 @@ fn environment_of<'a>(
     environment.add(b"reject", outline.has_reject())?;
     let in_states = form == ScannerForm::States;
     environment.add(b"states", in_states)?;
-    environment.add(b"labels", in_states && !outline.may_leave_out_rules())?;
+    let may_lack_actions = outline.may_leave_out_rules() && outline.has_pattern();
+    environment.add(b"labels", in_states && !may_lack_actions)?;
     Ok(environment)
 }
 
@@ -329,14 +330,14 @@ fn push_after_walk(
     output: &mut Output,
     environment: &Environment,
     outline: &FileOutline,
-    cut_tables: Option<&Tables>,
+    tables: ScannerTables,
     places: CodePlaces,
 ) -> Result<(), AllocError> {
     if environment.has(b"states") {
-        push_matches(alloc, output, environment, outline, cut_tables)?;
+        push_matches(alloc, output, environment, outline, tables)?;
         push_template(alloc, output, environment, STATE_STOP)?;
     } else {
-        push_rows_walk(alloc, output, environment, outline, cut_tables)?;
+        push_rows_walk(alloc, output, environment, outline, tables.cut_tables)?;
     }
     push_actions(alloc, output, places, outline)?;
     push_all(alloc, output, environment, &[YYLEX_END, GROW, REFILL])?;
@@ -437,12 +438,12 @@ fn code_after_walk(
     alloc: Global,
     environment: &Environment,
     outline: &FileOutline,
-    cut_tables: Option<&Tables>,
+    tables: ScannerTables,
     places: CodePlaces,
     lines: u32,
 ) -> Result<Output, AllocError> {
     let mut output = Output::after(alloc, lines);
-    push_after_walk(alloc, &mut output, environment, outline, cut_tables, places)?;
+    push_after_walk(alloc, &mut output, environment, outline, tables, places)?;
     push_calls(alloc, &mut output, environment)?;
     if !outline.functions.of(outline.text).is_empty() {
         places.push_code(&mut output, outline.functions)?;
@@ -601,12 +602,11 @@ fn texts_of<'a>(
     )?;
     let middle = middle_of(alloc, &environment, outline, tables)?;
     let lines = lines_before_code(&mut head, arrays, &middle);
-    let cut_tables = tables.cut_tables;
     let mut before_walk = code_before_walk(
         alloc,
         &environment,
         outline,
-        cut_tables,
+        tables.cut_tables,
         places,
         lines,
     )?;
@@ -614,7 +614,7 @@ fn texts_of<'a>(
         .line()
         .saturating_sub(1)
         .saturating_add(lines_in(arrays.walk.as_slice()));
-    let after_walk = code_after_walk(alloc, &environment, outline, cut_tables, places, lines)?;
+    let after_walk = code_after_walk(alloc, &environment, outline, tables, places, lines)?;
     Ok(ScannerTexts {
         head,
         middle,

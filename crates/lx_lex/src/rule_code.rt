@@ -1,7 +1,8 @@
 //! The end of the match of a rule, before its action: its trailing context is cut off.
 
 use crate::arrays::start_row;
-use crate::outline::{FileOutline, MatchCut, PatternOutline};
+use crate::outline::{FileOutline, MatchCut, PatternOutline, RuleOutline};
+use crate::printing::ScannerTables;
 use crate::skeleton_states::STATE_BACK;
 use crate::template::{Environment, Output, push_template};
 use lx_c::pushing::push_number_then;
@@ -97,6 +98,11 @@ pub(crate) fn push_cuts(
     output.push(b"            }\n")
 }
 
+/// Returns true if no match of a rule leaves the next one at the start of a line.
+fn ends_within_line(pattern: PatternOutline) -> bool {
+    !pattern.has_newline && pattern.cut == MatchCut::Whole
+}
+
 /// Appends the counting of lines in a match, and the flag for the start of the next line.
 fn push_ends(
     output: &mut Output,
@@ -110,7 +116,7 @@ fn push_ends(
     if !environment.has(b"bol") {
         return Ok(());
     }
-    if !pattern.has_newline && pattern.cut == MatchCut::Whole {
+    if ends_within_line(pattern) {
         return output.push(b"YY_END_NO_LINE\n");
     }
     output.push(if is_skipped {
@@ -120,18 +126,76 @@ fn push_ends(
     })
 }
 
+/// The states of a condition in which a match begins.
+#[derive(Clone, Copy)]
+struct StartStates {
+    within_line: u32,
+    at_line_begin: u32,
+}
+
+/// Returns the states in which the match after a rule without an action begins, if only one condition has the rule: such a rule enters no other one.
+fn starts_after(tables: &Tables, outline: &FileOutline, rule: &RuleOutline) -> Option<StartStates> {
+    let condition = outline.only_condition(rule)?;
+    if condition < tables.conditions() {
+        return Some(StartStates {
+            within_line: tables.start(condition, false).0,
+            at_line_begin: tables.start(condition, true).0,
+        });
+    }
+    None
+}
+
+/// Appends the way from a rule without an action to the next match: to the state in which it begins, if that is known.
+fn push_skip(
+    output: &mut Output,
+    environment: &Environment,
+    pattern: PatternOutline,
+    starts: Option<StartStates>,
+) -> Result<(), AllocError> {
+    let Some(starts) = starts else {
+        return output.push(b"YY_SKIP(goto yy_next_match;)\n");
+    };
+    output.push(b"YY_SKIP(")?;
+    let has_two = starts.within_line != starts.at_line_begin;
+    if has_two && environment.has(b"bol") && !ends_within_line(pattern) {
+        output.push(b"if (YY_AT_BOL()) goto yy__s")?;
+        push_number_then(
+            &mut output.text,
+            u64::from(starts.at_line_begin),
+            b"; else ",
+        )?;
+    }
+    output.push(b"goto yy__s")?;
+    push_number_then(&mut output.text, u64::from(starts.within_line), b";)\n")
+}
+
+/// A match of a rule, as far as it is known when a scanner is printed.
+#[derive(Clone, Copy)]
+struct MatchOutline {
+    number: u64,
+    pattern: PatternOutline,
+    /// True if the action does nothing.
+    is_idle: bool,
+    /// States in which the next match begins if the action does nothing.
+    starts: Option<StartStates>,
+}
+
 /// Appends what is done with a match of a rule, up to the jump to its action. A rule without an action goes on with the next match.
 fn push_match(
     output: &mut Output,
     environment: &Environment,
-    number: u64,
-    pattern: PatternOutline,
-    is_idle: bool,
+    matched: MatchOutline,
 ) -> Result<(), AllocError> {
+    let MatchOutline {
+        number,
+        pattern,
+        is_idle,
+        starts,
+    } = matched;
     let is_skipped = is_idle && !environment.has(b"yymore") && !environment.has(b"debug");
     if is_skipped {
         push_ends(output, environment, pattern, true)?;
-        output.push(b"YY_SKIP\n")?;
+        push_skip(output, environment, pattern, starts)?;
     }
     output.push(b"yy_act = ")?;
     push_number_then(&mut output.text, number, b";\nYY_TAKE\n")?;
@@ -170,7 +234,16 @@ fn push_default_match(
         cut: MatchCut::Whole,
     };
     output.push(b"yy_a_default:\n")?;
-    push_match(output, environment, number, pattern, false)?;
+    push_match(
+        output,
+        environment,
+        MatchOutline {
+            number,
+            pattern,
+            is_idle: false,
+            starts: None,
+        },
+    )?;
     output.push(b"goto yy_do_default;\n")
 }
 
@@ -193,19 +266,20 @@ pub(crate) fn push_matches(
     output: &mut Output,
     environment: &Environment,
     outline: &FileOutline,
-    cut_tables: Option<&Tables>,
+    tables: ScannerTables,
 ) -> Result<(), AllocError> {
     push_template(alloc, output, environment, STATE_BACK)?;
     push_jumps(output, outline)?;
     let mut place = CutPlace {
-        tables: cut_tables,
+        tables: tables.cut_tables,
         condition: 1,
     };
     let code_follows = outline.code_follows(alloc)?;
     let may_skip = !outline.may_define_hooks();
     let mut number: u64 = 0;
     for index in 0..outline.rules.len() {
-        let Some(pattern) = outline.rules[index].pattern else {
+        let rule = &outline.rules[index];
+        let Some(pattern) = rule.pattern else {
             continue;
         };
         number = number.saturating_add(1);
@@ -213,8 +287,13 @@ pub(crate) fn push_matches(
         push_number_then(&mut output.text, number, b":\n")?;
         push_cut(output, environment, pattern.cut, &mut place)?;
         output.end_line()?;
-        let is_idle = may_skip && outline.is_idle(index, code_follows.as_slice());
-        push_match(output, environment, number, pattern, is_idle)?;
+        let matched = MatchOutline {
+            number,
+            pattern,
+            is_idle: may_skip && outline.is_idle(index, code_follows.as_slice()),
+            starts: starts_after(tables.tables, outline, rule),
+        };
+        push_match(output, environment, matched)?;
         push_jump(output, environment, number)?;
     }
     push_default_match(output, environment, number.saturating_add(1))

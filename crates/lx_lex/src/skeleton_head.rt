@@ -663,6 +663,9 @@ static int yy_unused yy_top_state(@p);
 #if defined YY_USER_ACTION || defined YY_RULE_SETUP || defined YY_BREAK
 #define YY_HAS_HOOKS
 #endif
+#ifdef YY_INPUT
+#define YY_HAS_INPUT
+#endif
 %end
 #ifndef YY_USER_ACTION
 #define YY_USER_ACTION

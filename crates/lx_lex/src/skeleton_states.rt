@@ -126,11 +126,14 @@ pub(crate) const STATE_MACROS: &[u8] =
     }
 
 %end
-/* A rule without an action leaves yytext alone, unless the program has macros that are to see each match. */
+/* A rule without an action leaves yytext and the condition alone, unless the program has macros that are to see each match. So the state in which the
+   next match begins is mostly known, but for programs whose YY_INPUT may change the condition. */
 #if defined YY_HAS_HOOKS
-#define YY_SKIP
+#define YY_SKIP(next)
+#elif defined YY_HAS_INPUT
+#define YY_SKIP(next) { yy_bp = yy_cp; goto yy_next_match; }
 #else
-#define YY_SKIP { yy_bp = yy_cp; goto yy_next_match; }
+#define YY_SKIP(next) { yy_bp = yy_cp; yy_last_rule = 0; next }
 #endif
 
 "#;
