@@ -335,7 +335,7 @@ module _ {S : Type 0} (gives : S → List ℕ → PlainInput → S → Type 0) (
   check_refused c text refused kept failure (inr h) = check_reported c text refused kept failure h
 
   -- or its arguments are
-  pub warning_refused : (c : PlainCheck) → Keeps old new → (failure : CommandFault) → (fault : RequestFault) × (failure ≡ Refused fault) × IsWarningFault fault → HasFailed gives (Some (check c)) before old new failure
+  pub warning_refused : (c : PlainCheck) → Keeps old new → (failure : CommandFault) → (fault : RequestFault) × (failure ≡ Refused fault) × IsWarningFault c.warnings fault → HasFailed gives (Some (check c)) before old new failure
   warning_refused c kept failure h = rw h.1 (λ low. record { cause = inl (inl h.2); tells = tt; kept = kept })
 
   pub flex_refused : (c : PlainCheck) → Keeps old new → (failure : CommandFault) → (failure ≡ Refused FlexLater) × (c.flex ≡ true) → HasFailed gives (Some (check c)) before old new failure

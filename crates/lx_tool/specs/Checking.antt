@@ -1,5 +1,5 @@
 -- The report of `check` on a specification.
-use Rattle.std.specs.Prelude.{◌≡◌, ◌⊎◌, ⊤, ℕ, Bool, true, false, List, [], ◌∷◌, ◌++◌, Option, Some, Contains, codes, if◌then◌else◌}
+use Rattle.std.specs.Prelude.{◌≡◌, ◌≢◌, ◌⊎◌, ⊤, ℕ, Bool, true, false, List, [], ◌∷◌, ◌++◌, Option, Some, Contains, codes, if◌then◌else◌}
 use Rattle.std.specs.Str.{bytes_eq}
 use Rattle.std.specs.Borrow.{Bor}
 use Rattle.std.specs.Io.KnownBytes.{Appends}
@@ -102,11 +102,24 @@ pub record IsReported (check : PlainCheck) (text : List ℕ) (failure : CommandF
   pub carried : report_in failure ≡ Some said
   pub tells : check.json ≡ false → TellsVerdict check.rules report said
 
--- `-W` has a word that names no warning
-pub record IsWarningFault (fault : RequestFault) : Type 0 where
+-- The word is no kind's name, nor one behind `no-`.
+pub record NamesNoKind (word : List ℕ) : Type 0 where
+  pub on : (kind : WarningKind) → name_text kind ≢ word
+  pub off : (kind : WarningKind) → codes "no-" ++ name_text kind ≢ word
+
+-- The word names no warning. As a word of `-W` it means nothing.
+pub record NamesNoWarning (word : List ℕ) : Type 0 where
+  pub no_kind : NamesNoKind word
+  pub not_all : word ≢ codes "all"
+  pub not_error : word ≢ codes "error"
+
+-- One of the words of `-W` names no warning.
+pub record IsWarningFault (words : List (List ℕ)) (fault : RequestFault) : Type 0 where
   pub word : Bor (List ℕ)
   pub is : fault ≡ NoWarning word
+  pub among : Contains words word.now
+  pub unknown : NamesNoWarning word.now
 
 -- The words of `check` are rejected: a word of `-W`, or `--flex`, which isn't the first.
 abbrev pub IsCheckWordsFault : PlainCheck → RequestFault → Type 0
-IsCheckWordsFault check fault = IsWarningFault fault ⊎ ((fault ≡ FlexLater) × (check.flex ≡ true))
+IsCheckWordsFault check fault = IsWarningFault check.warnings fault ⊎ ((fault ≡ FlexLater) × (check.flex ≡ true))

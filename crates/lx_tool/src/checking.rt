@@ -1,12 +1,14 @@
 //! The command `check`: reports on a specification.
 
-ghost use Rattle.std.specs.Prelude.{◌≡◌, ◌<◌, ◌⊎◌, ◌++◌, ⊤, [], IfOk, IfErr, IfSome, OnOk, Some, codes, true, false, if◌then◌else◌};
+ghost use Rattle.std.specs.Prelude.{◌≡◌, ◌≢◌, ◌<◌, ◌⊎◌, ◌++◌, ⊤, ℕ, List, [], IfOk, IfErr, IfNone, IfSome, OnOk, Some, codes, true, false, if◌then◌else◌};
 ghost use Rattle.std.specs.Str.{bytes_eq};
 ghost use Rattle.lx_check.specs.Findings.{IfAccepted, IsVerdict, TellsChosen};
 ghost use Rattle.lx_report.specs.Said.{TellsVerdict, TellsWarnings};
 ghost use Rattle.lx_warnings.specs.Kinds.{has_kind};
+ghost use Rattle.lx_warnings.specs.Names.{name_text};
+ghost use Rattle.lx_warnings.specs.declared.kinds.WarningKind.{WarningKind};
 ghost use Rattle.lx_cli.specs.CommandLine.{plain_check, check as check-asked};
-ghost use Rattle.lx_tool.specs.Checking.{IsAccepted, IsAcceptedText, IsReported, IsReportOf, IsWarningFault, TellsAccepted, has_error};
+ghost use Rattle.lx_tool.specs.Checking.{IsAccepted, IsAcceptedText, IsReported, IsReportOf, IsWarningFault, NamesNoKind, NamesNoWarning, TellsAccepted, has_error};
 ghost use Rattle.lx_tool.specs.Switching.{AreKindsAsked, IsAskedBehind, IsSwitched};
 ghost use Rattle.lx_tool.specs.Commands.{HasDone, HasFailed};
 
@@ -33,6 +35,7 @@ struct Asked {
 fn with_named(asked: Asked, name: &[u8], is_in: bool) -> Option<Asked>
     ensures errors { IfSome result (λ new. new.are_errors ≡ asked.are_errors) }
     ensures kinds { IfSome result (λ new. IsSwitched name.now is_in asked.kinds new.kinds) }
+    ensures none { IfNone result ((kind : WarningKind) → name_text kind ≢ name.now) }
 {
     let kind = kind_named(name)?;
     Some(Asked {
@@ -43,7 +46,8 @@ fn with_named(asked: Asked, name: &[u8], is_in: bool) -> Option<Asked>
 
 // Returns the name after `no-`, if the word begins with it.
 fn switched_off(word: &[u8]) -> Option<&[u8]>
-    ensures { IfSome result (λ name. word.now ≡ codes "no-" ++ name.now) }
+    ensures some { IfSome result (λ name. word.now ≡ codes "no-" ++ name.now) }
+    ensures none { IfNone result ((name : List ℕ) → codes "no-" ++ name ≢ word.now) }
 {
     word.strip_prefix(b"no-")
 }
@@ -52,6 +56,7 @@ fn switched_off(word: &[u8]) -> Option<&[u8]>
 fn with_kind_word(asked: Asked, word: &[u8]) -> Option<Asked>
     ensures errors { IfSome result (λ new. new.are_errors ≡ asked.are_errors) }
     ensures kinds { IfSome result (λ new. IsAskedBehind word.now asked.kinds new.kinds) }
+    ensures none { IfNone result (NamesNoKind word.now) }
 {
     match switched_off(word) {
         Some(name) => with_named(asked, name, false),
@@ -65,6 +70,7 @@ fn with_word(asked: Asked, word: &str) -> Option<Asked>
         new.are_errors
         ≡ (if asked.are_errors then true else bytes_eq word.now (codes "error"))) }
     ensures kinds { IfSome result (λ new. IsAskedBehind word.now asked.kinds new.kinds) }
+    ensures none { IfNone result (NamesNoWarning word.now) }
 {
     if word == "all" {
         return Some(Asked {
@@ -86,7 +92,8 @@ fn warnings_asked<'a>(words: &CheckWords<'a>) -> Result<Asked, CommandFault<'a>>
         (λ asked. asked.are_errors ≡ has_error (plain_check words.now).warnings) }
     ensures kinds { IfOk result (λ asked. AreKindsAsked (plain_check words.now) asked.kinds) }
     ensures err { IfErr result (λ failure.
-        (fault : RequestFault) × (failure ≡ CommandFault.Refused fault) × IsWarningFault fault) }
+        (fault : RequestFault) × (failure ≡ CommandFault.Refused fault)
+        × IsWarningFault (plain_check words.now).warnings fault) }
 {
     let mut warnings = Asked {
         kinds: KindSet::usual(),

@@ -31,10 +31,20 @@ fn name_of_topic(topic: &str) -> &str {
     line.split(" ").next().unwrap_or("")
 }
 
+// Returns the cause of a word as `E10/brackets-open`, which reports in JSON have, or the word itself.
+fn cause_of(word: &str) -> &str {
+    let mut parts = word.split("/");
+    match (parts.next(), parts.next()) {
+        (Some(_), Some(cause)) => cause,
+        _ => word,
+    }
+}
+
 fn push_topics(notes: &mut Vec<u8>, word: &str) -> Result<(), AllocError> {
-    let mut nearest = Nearest::to(word.as_bytes());
+    let cause = cause_of(word).as_bytes();
+    let mut nearest = Nearest::to(cause);
     for topic in all_topics() {
-        nearest = nearest.or(word.as_bytes(), name_of_topic(topic).as_bytes());
+        nearest = nearest.or(cause, name_of_topic(topic).as_bytes());
     }
     push_nearest(notes, nearest)?;
     notes.extend_from_slice(b"lx: lx explain lists all codes and causes\n")

@@ -109,11 +109,27 @@ fn look_at_indented(search: &mut SuspectSearch<'_>, line: &TextPart) -> Result<(
     look_at_line(search, &line.allowed, suspect)
 }
 
-/// Examines the lines of the rules section that begin with a blank, and the lines after that section.
+// Examines the text behind the `%%` that begins the rules section.
+fn look_at_beginning(search: &mut SuspectSearch<'_>, line: &TextPart) -> Result<(), AllocError> {
+    let text = search.text;
+    let end = line.at.end();
+    let at = between(skip_blanks(text, line.at.start.saturating_add(2), end), end);
+    let suspect = suspect_at(
+        WarningKind::SkippedLine,
+        at,
+        "this looks like a rule, and is skipped: it stands on the line of %%",
+    );
+    look_at_line(search, &line.allowed, suspect)
+}
+
+/// Examines the lines of the rules section that begin with a blank, the text on the line before it, and the lines after it.
 pub(crate) fn look_at_skipped(
     search: &mut SuspectSearch<'_>,
     layout: &Layout,
 ) -> Result<(), AllocError> {
+    if let Some(line) = &layout.rules_begin {
+        look_at_beginning(search, line)?;
+    }
     for line in &layout.skipped {
         look_at_indented(search, line)?;
     }
