@@ -24,7 +24,7 @@ _lx() {
         "run --format") words="text json" ;;
         "run --first") compopt +o default; return ;;
         "run --files-from") return ;;
-        "check -W") words="all error condition-word never-entered unused-definition never-chosen interval lazy letter-escape long-hex many-bytes curly-quotes class-outside wide-range dead-statement skipped-rule skipped-line far-ahead unread-bytes no-condition-word no-never-entered no-unused-definition no-never-chosen no-interval no-lazy no-letter-escape no-long-hex no-many-bytes no-curly-quotes no-class-outside no-wide-range no-dead-statement no-skipped-rule no-skipped-line no-far-ahead no-unread-bytes" ;;
+        "check -W") words="all error condition-word never-entered unused-definition never-chosen eof-rule interval lazy letter-escape long-hex many-bytes curly-quotes class-outside wide-range dead-statement skipped-rule skipped-line far-ahead unread-bytes no-condition-word no-never-entered no-unused-definition no-never-chosen no-eof-rule no-interval no-lazy no-letter-escape no-long-hex no-many-bytes no-curly-quotes no-class-outside no-wide-range no-dead-statement no-skipped-rule no-skipped-line no-far-ahead no-unread-bytes" ;;
         "check --most") compopt +o default; return ;;
         "import -o") return ;;
         "import -c") return ;;

@@ -12,9 +12,6 @@ use std::alloc::{AllocError, Global};
 // Start of each text of tables.
 const BEGINNING: &[u8] = b"lx-tables ";
 
-// Last line of each text of tables.
-const LAST_LINE: &[u8] = b"end";
-
 /// The reason why a text isn't that of tables.
 #[derive(Clone, Copy)]
 pub enum TableCause {
@@ -42,11 +39,9 @@ fn is_specification(text: &[u8]) -> bool {
     begins_at(text, 0, b"%%") || find(text, 0, text.len(), b"\n%%").is_some()
 }
 
-// Returns true if the last line isn't the end of tables.
+// Returns true if no line is the end of tables.
 fn is_truncated(text: &[u8]) -> bool {
-    let end = text.len();
-    let last = end.saturating_sub(LAST_LINE.len() + 2);
-    !(begins_at(text, last, b"\nend\n") && last.saturating_add(LAST_LINE.len() + 2) == end)
+    find(text, 0, text.len(), b"\nend\n").is_none()
 }
 
 /// Explains why a text isn't that of tables.

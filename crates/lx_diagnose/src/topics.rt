@@ -148,7 +148,7 @@ E10
     To do: see the patterns in docs/LANGUAGE.md; a blank in a pattern has to be quoted
 
 eof-rule (E10)
-    no rule is for the end of a file
+    no rule is for the end of a file; after conditions, as in <A><<EOF>>, it is seven bytes of text, and lx check warns
     To do: delete it; where a rule before it has the action |, give it this one's
     As in: <<EOF>> ;
 
@@ -608,8 +608,8 @@ skipped-rule (warning)
     As in:  a return A;
 
 skipped-line (warning)
-    a line after the second %% looks like a rule, and is skipped
-    To do: put it before that line
+    a line after the second %%, or the text behind the first on its line, looks like a rule, and is skipped
+    To do: put it on a line between them
 
 far-ahead (warning)
     a run of one byte is read to its end, and where no match ends with it, again after each of its bytes; off by default; enable with -W far-ahead
