@@ -144,7 +144,7 @@ static inline void lx__read(lx__reader *r, lx_tables *t) { /* where it is stored
     for (i = 1; i <= t->states && !r->message; i++) lx__read_state(r, t, i, places, rules);
     lx__word(r, "\nend\n", "a line \"end\" is due");
     if (r->at != r->end) lx__refuse(r, "nothing may follow the end");
-    if (t->kinds > 2147483647 - r->greatest) lx__refuse(r, "a number leaves none for the kinds");
+    if (!r->message && t->kinds > 2147483647 - r->greatest) r->message = "a number leaves none for the kinds";
     t->steps = r->steps, t->letters = r->names;
 }
 
@@ -155,6 +155,15 @@ static inline int lx__are_classes_apart(const lx_tables *t) {
     for (one = 1; one < t->classes; one++)
         for (other = 0; other < one; other++)
             if (memcmp(t->steps + (size_t)one * height, t->steps + (size_t)other * height, height * sizeof *t->steps) == 0) return 0;
+    return 1;
+}
+
+/* Returns 1 where no two kinds have the same name. */
+static inline int lx__are_names_apart(const lx_tables *t) {
+    int one, other;
+    for (one = 1; one < t->kinds; one++)
+        for (other = 0; other < one; other++)
+            if (strcmp(t->letters + t->names[one], t->letters + t->names[other]) == 0) return 0;
     return 1;
 }
 
@@ -172,6 +181,7 @@ static inline size_t lx_tables_read(lx_tables *t, void *memory, const char *text
         memset(storing.steps, 0, steps * sizeof *r.steps + r.letters);
         lx__read(&storing, t);
         if (!lx__are_classes_apart(t)) return error->line = storing.line, error->message = "two classes lead to the same states", 0;
+        if (!lx__are_names_apart(t)) return error->line = storing.line, error->message = "two kinds have the same name", 0;
     }
     return r.words * sizeof *r.memory + steps * sizeof *r.steps + r.letters;
 }

@@ -101,6 +101,8 @@ class Tables:
             reader.refuse("nothing may follow the end")
         if len({tuple(id(row[number]) for row in rows) for number in range(count)}) < count:
             raise Damaged(reader.line, "two classes lead to the same states")
+        if len(set(self.kinds)) < len(self.kinds):
+            raise Damaged(reader.line, "two kinds have the same name")
         self.starts = [(rows[plain], rows[at_line_begin]) for plain, at_line_begin in starts]
 
     @staticmethod

@@ -82,6 +82,7 @@ impl Tables {
         if !lines.rest.is_empty() { return lines.refuse("nothing may follow the end"); }
         let column = |class: usize| &tables.next[class * height..][..=states];
         if (1..classes).any(|one| (0..one).any(|other| column(one) == column(other))) { return lines.refuse("two classes lead to the same states"); }
+        if (1..tables.kinds.len()).any(|one| tables.kinds[..one].contains(&tables.kinds[one])) { return lines.refuse("two kinds have the same name"); }
         Ok(tables)
     }
     fn read_kind(&mut self, lines: &mut Lines) -> Result<(), Error> {

@@ -70,6 +70,12 @@ def damaged(draw, tables):
     return text
 
 
+def with_name_twice(tables):
+    """Returns tables in which the second kind has the name of the first."""
+    first, second = re.findall(rb"\nkind \w+", tables)[:2]
+    return tables.replace(second + b"\n", first + b"\n", 1)
+
+
 def answers_of(ended, count):
     """Returns what a driver says of each text; after its last answer, why it stopped."""
     answers = (b"\n" + ended.stdout.removesuffix(b"\n")).split(b"\n= ")[1:]
@@ -82,7 +88,8 @@ class DamagedTables(Case):
     def setUp(self):
         self.folder, self.known, draw = self.make_folder(), {}, random.Random(OPTIONS.seed)
         bases = [support.output_of("gen", path) for path in SPECIFICATIONS]
-        self.texts = [damaged(draw, draw.choice(bases)) for _ in range(OPTIONS.count)]
+        self.texts = [with_name_twice(base) for base in bases if base.count(b"\nkind ") > 1]
+        self.texts += [damaged(draw, draw.choice(bases)) for _ in range(OPTIONS.count)]
         (self.folder / "cases").write_bytes(b"".join(len(text).to_bytes(4, "little") + text for text in self.texts))
         (self.folder / "text").write_bytes(TEXT)
 
