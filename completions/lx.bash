@@ -3,7 +3,7 @@ _lx() {
     local word=$2 before=$3 words=
     COMPREPLY=()
     if [ "$COMP_CWORD" -eq 1 ]; then
-        words="gen up scan run check explain show import -h --help -V --version"
+        words="gen up scan run check explain show import flex lex -h --help -V --version"
     else
         case "${COMP_WORDS[1]} $before" in
         "gen -o") return ;;
@@ -53,6 +53,12 @@ _lx() {
             ;;
         "import "*)
             [ "${word#-}" = "$word" ] || words="-o -c --prefix --lossy -h --help"
+            ;;
+        "flex "*)
+            [ "${word#-}" = "$word" ] || words="-t --stdout -o --outfile -P --prefix --header-file -i --case-insensitive -l --lex-compat -X --posix-compat -s --nodefault -d --debug -R --reentrant --bison-bridge --bison-locations --yylineno --array --stack --main --noyywrap --always-interactive --never-interactive --read -Cr -f -F --form=states --form=rows -D -L --noline -v --verbose -w --nowarn -V --version -h --help -Ce -Cm -7 -8 -B -C -I -T -b -c -n -p"
+            ;;
+        "lex "*)
+            [ "${word#-}" = "$word" ] || words="-t --stdout -o --outfile -P --prefix --header-file -i --case-insensitive -l --lex-compat -X --posix-compat -s --nodefault -d --debug -R --reentrant --bison-bridge --bison-locations --yylineno --array --stack --main --noyywrap --always-interactive --never-interactive --read -Cr -f -F --form=states --form=rows -D -L --noline -v --verbose -w --nowarn -V --version -h --help -Ce -Cm -7 -8 -B -C -I -T -b -c -n -p"
             ;;
         esac
     fi

@@ -8,7 +8,7 @@ from tests.support import TOP, Case
 
 FOLDER = TOP / "completions"
 NAMES = ["lx.bash", "_lx", "lx.fish"]
-COMMANDS = ["gen", "up", "scan", "run", "check", "explain", "show", "import"]
+COMMANDS = ["gen", "up", "scan", "run", "check", "explain", "show", "import", "flex", "lex"]
 # What bash asks of the function: the words of the command line, of which the last one is completed.
 BASH = 'source "$0"; COMP_WORDS=("$@"); COMP_CWORD=$(($# - 1)); _lx lx "${@: -1}" "${@: -2:1}" 2>/dev/null; printf "%s\\n" "${COMPREPLY[@]}"'
 # zsh's own functions of completion write what they are handed.
@@ -55,6 +55,7 @@ class Completions(Case):
         self.expect("files", self.bash("gen", "-o", ""), [])
         self.expect("warnings", self.bash("check", "-W", "no-never-c"), ["no-never-chosen"])
         self.expect("topics", self.bash("explain", "E10"), ["E10"])
+        self.expect("forms", self.bash("flex", "--form"), ["--form=states", "--form=rows"])
 
     def test_zsh(self):
         def zsh(*words):
@@ -64,6 +65,7 @@ class Completions(Case):
             self.check(f"{command} is described", f"\n{command}:" in f"\n{zsh('')}", zsh(""))
         self.check("options of gen", "--direct[" in zsh("gen", ""), zsh("gen", ""))
         self.check("no options of gen in check", "--direct[" not in zsh("check", ""))
+        self.check("forms", "--form=rows[" in zsh("flex", ""), zsh("flex", ""))
         self.check("formats", "--format[" in zsh("run", "") and ":FORMAT:(text json)" in zsh("run", ""))
 
     def test_fish(self):
@@ -77,6 +79,7 @@ class Completions(Case):
         self.expect("formats", sorted(fish("lx run --format ")), ["json", "text"])
         self.expect("warnings", fish("lx check -W no-never-c"), ["no-never-chosen"])
         self.expect("topics", fish("lx explain group-ope"), ["group-open"])
+        self.expect("forms", sorted(fish("lx flex --form=")), ["--form=rows", "--form=states"])
 
 
 if __name__ == "__main__":
