@@ -3,6 +3,7 @@
 Each scanner compiles without a warning as C99 and as C++, by gcc and by clang. tests/flex-suite and tests/flex-fuzz compare more of them with flex.
 """
 import os
+import re
 import shutil
 import time
 
@@ -249,6 +250,25 @@ class FlexScanners(Case):
         self.expect("standard input", self.flex("-t", input=WORDS).stdout, printed.stdout.replace('"x.l"', '"<stdin>"'))
         ended = self.flex("-o", "a.c", "--header-file=a.h", "x.l")
         self.expect("a header", (ended.returncode, self.names()), (0, ["a.c", "a.h", "x.l"]))
+
+    def test_backup(self):
+        """What -b writes: nothing is given back after one byte, since the default rule takes it."""
+        report = "State #N is non-accepting -\n after the text: %s\n out-transitions: [ %s ]\n jam-transitions: EOF [ %s ]\n\n"
+        numbers = report % ("0.", "0-9", r"\000-/ :-\377")
+        word = report % ("fo", "o", r"\000-n p-\377")
+        for name, rules, wanted in [
+                ("none", "foo ;\nfo ;\n", "No backing up.\n"), ("a word", "foo ;\n", word + "1 backing up (non-accepting) states.\n"),
+                ("a number", "[0-9]+(\\.[0-9]+)? ;\n", numbers + "1 backing up (non-accepting) states.\n")]:
+            self.write("%option noyywrap\n%%\n" + rules)
+            for words in (["-b", "x.l"], ["--backup", "-o", "lex.yy.c", "x.l"]):
+                self.expect(f"{name}: {words}", self.flex(*words).returncode, 0)
+                self.expect(f"{name}: files of {words}", self.names(), ["lex.backup", "lex.yy.c", "x.l"])
+                self.expect(f"{name}: text of {words}", re.sub(r"#\d+", "#N", (self.room / "lex.backup").read_text()), wanted)
+                (self.room / "lex.backup").unlink()
+        (self.room / "lex.yy.c").unlink()
+        self.write("%option backup\n%%\na ;\n", "lex.backup")
+        ended = self.flex("lex.backup")
+        self.expect("the input as the output", (ended.returncode, ended.stderr.splitlines()[0], self.names()), (2, "lx: an output would overwrite lex.backup; name another file", ["lex.backup", "x.l"]))
 
     def test_several_files(self):
         self.write("%option noyywrap\n%%\n", "one.l")

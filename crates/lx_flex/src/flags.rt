@@ -104,7 +104,6 @@ const IDLE_NAMES: &[&[u8]] = &[
     b"hex",
     b"trace",
     b"perf-report",
-    b"backup",
     b"noansi-definitions",
     b"noansi-prototypes",
 ];

@@ -3,6 +3,7 @@
 
 mod actions;
 mod arrays;
+pub mod backing_up;
 pub mod forms;
 pub mod laws;
 mod list_arrays;
@@ -18,6 +19,7 @@ mod state_code;
 mod template;
 pub mod translating;
 
+pub use crate::backing_up::backup_of;
 pub use crate::forms::{ScannerForm, asked_form, form_of};
 pub use crate::outline::{FileOutline, MatchCut, split};
 pub use crate::printing::{PrintOptions, ScannerTables, header_of, scanner_of};

@@ -94,7 +94,7 @@ pub record IsScanner (text : List ℕ) : Type 0 where
   pub are_lists : FindsLists spec lists
   pub has_list_arrays : IfSome lists (λ l. HasListArrays l.automaton l.lists text)
 
--- A scanner went to the output or to a file, and then a header to a file, if there is one.
+-- A scanner went to the output or to a file, and then a header and a report on backing up to files, if they are asked for.
 pub record IsScannerPrinted {T : Type 0} (places : T → List ℕ → List ℕ → T → Type 0) (before after : T) (old new : Option (List ℕ)) : Type 0 where
   pub text : List ℕ
   pub is_scanner : IsScanner text
@@ -104,7 +104,11 @@ pub record IsScannerPrinted {T : Type 0} (places : T → List ℕ → List ℕ �
   pub placed : IsPlaced places target text before between
   pub header : Option (List ℕ)
   pub header_text : List ℕ
-  pub header_placed : IsPlaced places header header_text between after
+  pub behind : T
+  pub header_placed : IsPlaced places header header_text between behind
+  pub report : Option (List ℕ)
+  pub report_text : List ℕ
+  pub report_placed : IsPlaced places report report_text behind after
 
 -- the line that names the version
 abbrev pub version_line : List ℕ

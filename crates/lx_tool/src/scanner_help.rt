@@ -48,12 +48,14 @@ pub(crate) const SCANNER_OPTIONS: &[u8] =
                           prints code for each state, or arrays with a row for each
   -D NAME[=VALUE]         defines a macro
   -L, --noline            prints no #line directives
+  -b, --backup            writes to lex.backup in which states a scanner may go back to an
+                          earlier end of a match
   -v, --verbose           prints a summary to standard error
   -w, --nowarn            prints no warnings
   -V, --version           prints the version
   -h, --help              prints this text
   -Ce -Cm                 ask for rows
-  -7 -8 -B -C[afF] -I -T -b -c -n -p
+  -7 -8 -B -C[afF] -I -T -c -n -p
                           are accepted and change nothing
 
 Each word of %option is an option too, as --yylineno or --noyywrap.

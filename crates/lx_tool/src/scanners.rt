@@ -21,7 +21,7 @@ use lx_flex::Reports;
 use lx_flex::file::{FlexFile, read_file};
 use lx_flex::flags::{FlexAnswer, FlexCommand, read_command};
 use lx_flex::options::FlexOptions;
-use lx_lex::{PrintOptions, ScannerTables, asked_form, form_of, header_of, scanner_of};
+use lx_lex::{PrintOptions, ScannerTables, asked_form, backup_of, form_of, header_of, scanner_of};
 use lx_report::{NamedText, push_reports};
 use std::alloc::{AllocError, Global};
 use std::io::Write;
@@ -79,6 +79,8 @@ pub(crate) fn scanner_words(words: &[String]) -> Option<ScannerWords<'_>>
 struct OutputNames {
     scanner: Option<Vec<u8>>,
     header: Option<Vec<u8>>,
+    /// The report that `-b` asks for.
+    backup: Option<Vec<u8>>,
 }
 
 // Returns `lex.PREFIX` with this ending.
@@ -116,7 +118,24 @@ fn output_names(
             }
         }
     };
-    Ok(OutputNames { scanner, header })
+    let backup = if options.is_on(b"backup") {
+        Some(Vec::from_slice(alloc, b"lex.backup")?)
+    } else {
+        None
+    };
+    Ok(OutputNames {
+        scanner,
+        header,
+        backup,
+    })
+}
+
+/// The same names as text.
+#[derive(Clone, Copy)]
+struct WrittenNames<'n> {
+    scanner: Option<&'n str>,
+    header: Option<&'n str>,
+    backup: Option<&'n str>,
 }
 
 fn name_text<'a, 'n>(name: &'n Option<Vec<u8>>) -> Result<Option<&'n str>, ScannerFault<'a>> {
@@ -146,21 +165,32 @@ fn judge_output<'a, T: Targets>(
     Ok(())
 }
 
-// Rejects outputs that are inputs, or one another.
-fn judge_outputs<'a, T: Targets>(
+// Rejects two outputs that are one file.
+fn judge_two<'a, T: Targets>(
     targets: &T,
-    scanner: Option<&str>,
-    header: Option<&str>,
-    files: &[&'a str],
+    output: Option<&str>,
+    other: Option<&str>,
 ) -> Result<(), ScannerFault<'a>> {
-    judge_output(targets, scanner, files)?;
-    judge_output(targets, header, files)?;
-    if let (Some(scanner), Some(header)) = (scanner, header) {
-        if targets.is_same_file(scanner, header)? {
+    if let (Some(output), Some(other)) = (output, other) {
+        if targets.is_same_file(output, other)? {
             return Err(ScannerFault::Overwrites("the other one"));
         }
     }
     Ok(())
+}
+
+// Rejects outputs that are inputs, or one another.
+fn judge_outputs<'a, T: Targets>(
+    targets: &T,
+    names: WrittenNames<'_>,
+    files: &[&'a str],
+) -> Result<(), ScannerFault<'a>> {
+    judge_output(targets, names.scanner, files)?;
+    judge_output(targets, names.header, files)?;
+    judge_output(targets, names.backup, files)?;
+    judge_two(targets, names.scanner, names.header)?;
+    judge_two(targets, names.scanner, names.backup)?;
+    judge_two(targets, names.header, names.backup)
 }
 
 // Writes what `-v` asks for to `notes`.
@@ -265,21 +295,28 @@ fn scanner_text<'a, 's>(
     Ok(scanner_of(alloc, &made.outline, tables, options)?)
 }
 
-// Writes the scanner, and its header if that has a name.
+/// The texts that are written.
+#[derive(Clone, Copy)]
+struct WrittenTexts<'t> {
+    scanner: &'t [u8],
+    header: &'t [u8],
+    backup: &'t [u8],
+}
+
+// Writes the scanner, and its header and the report on backing up if they have names.
 fn write_outputs<'a, T: Targets, O: Write>(
-    scanner_name: Option<&str>,
-    scanner: &[u8],
-    header_name: Option<&str>,
-    header: &[u8],
+    names: WrittenNames<'_>,
+    texts: WrittenTexts<'_>,
     targets: &mut T,
     out: &mut O,
 ) -> Result<(), ScannerFault<'a>>
-    requires { IsScanner scanner.now }
+    requires { IsScanner texts.scanner.now }
     ensures { OnOk result (IsScannerPrinted T.places targets.old targets.new
         (O.contents out.old) (O.contents out.new)) }
 {
-    write_or_place(scanner_name, scanner, targets, out)?;
-    place_named(header_name, header, targets)
+    write_or_place(names.scanner, texts.scanner, targets, out)?;
+    place_named(names.header, texts.header, targets)?;
+    place_named(names.backup, texts.backup, targets)
 }
 
 /// Words of the command line about outputs, and the files that these may not be.
@@ -291,12 +328,12 @@ struct OutputWords<'w, 'a> {
 }
 
 // Prints the scanner of a file and its header. Writes its faults and warnings to `notes`.
-fn print_file<'a, T: Targets, O: Write>(
+fn print_file<'a, 's, T: Targets, O: Write>(
     alloc: Global,
-    file: FlexFile<'_>,
+    file: FlexFile<'s>,
     reports: Reports,
-    source: NamedText<'_>,
-    words: OutputWords<'_, 'a>,
+    source: NamedText<'s>,
+    words: OutputWords<'s, 'a>,
     targets: &mut T,
     notes: &mut Vec<u8>,
     out: &mut O,
@@ -305,9 +342,12 @@ fn print_file<'a, T: Targets, O: Write>(
         (O.contents out.old) (O.contents out.new)) }
 {
     let written = output_names(alloc, &file.declared.options, words.header)?;
-    let scanner_name = name_text(&written.scanner)?;
-    let header_name = name_text(&written.header)?;
-    judge_outputs(targets, scanner_name, header_name, words.files)?;
+    let names = WrittenNames {
+        scanner: name_text(&written.scanner)?,
+        header: name_text(&written.header)?,
+        backup: name_text(&written.backup)?,
+    };
+    judge_outputs(targets, names, words.files)?;
     let mut reports = reports;
     let made = made_of(alloc, file, &mut reports);
     push_reports(alloc, notes, source, &reports, false)?;
@@ -315,20 +355,22 @@ fn print_file<'a, T: Targets, O: Write>(
     let asked = asked_form(&made.outline.declared.options);
     let options = PrintOptions {
         sources: source.names,
-        printed: scanner_name.unwrap_or("<stdout>").as_bytes(),
+        printed: names.scanner.unwrap_or("<stdout>").as_bytes(),
         macros: words.macros,
         form: form_of(made.lists.is_some(), asked, &made.tables),
     };
     let scanner = scanner_text(alloc, &made, options, notes)?;
     let header = header_of(alloc, &made.outline, options)?;
-    write_outputs(
-        scanner_name,
-        scanner.as_slice(),
-        header_name,
-        header.as_slice(),
-        targets,
-        out,
-    )
+    let backup = match &written.backup {
+        Some(_) => backup_of(alloc, &made.tables)?,
+        None => Vec::new(alloc),
+    };
+    let texts = WrittenTexts {
+        scanner: scanner.as_slice(),
+        header: header.as_slice(),
+        backup: backup.as_slice(),
+    };
+    write_outputs(names, texts, targets, out)
 }
 
 // Does what the words ask for.
