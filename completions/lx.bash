@@ -55,10 +55,10 @@ _lx() {
             [ "${word#-}" = "$word" ] || words="-o -c --prefix --lossy -h --help"
             ;;
         "flex "*)
-            [ "${word#-}" = "$word" ] || words="-t --stdout -o --outfile -P --prefix --header-file -i --case-insensitive -l --lex-compat -X --posix-compat -s --nodefault -d --debug -R --reentrant --bison-bridge --bison-locations --yylineno --array --stack --main --noyywrap --always-interactive --never-interactive --read -Cr -f -F --form=states --form=rows -D -L --noline -v --verbose -w --nowarn -V --version -h --help -Ce -Cm -7 -8 -B -C -I -T -b -c -n -p"
+            [ "${word#-}" = "$word" ] || words="-t --stdout -o --outfile -P --prefix --header-file -i --case-insensitive -l --lex-compat -X --posix-compat -s --nodefault -d --debug -R --reentrant --bison-bridge --bison-locations --yylineno --array --stack --main --noyywrap --always-interactive --never-interactive --read -Cr -f -F --form=states --form=rows -D -L --noline -b --backup -v --verbose -w --nowarn -V --version -h --help -Ce -Cm -7 -8 -B -C -I -T -c -n -p"
             ;;
         "lex "*)
-            [ "${word#-}" = "$word" ] || words="-t --stdout -o --outfile -P --prefix --header-file -i --case-insensitive -l --lex-compat -X --posix-compat -s --nodefault -d --debug -R --reentrant --bison-bridge --bison-locations --yylineno --array --stack --main --noyywrap --always-interactive --never-interactive --read -Cr -f -F --form=states --form=rows -D -L --noline -v --verbose -w --nowarn -V --version -h --help -Ce -Cm -7 -8 -B -C -I -T -b -c -n -p"
+            [ "${word#-}" = "$word" ] || words="-t --stdout -o --outfile -P --prefix --header-file -i --case-insensitive -l --lex-compat -X --posix-compat -s --nodefault -d --debug -R --reentrant --bison-bridge --bison-locations --yylineno --array --stack --main --noyywrap --always-interactive --never-interactive --read -Cr -f -F --form=states --form=rows -D -L --noline -b --backup -v --verbose -w --nowarn -V --version -h --help -Ce -Cm -7 -8 -B -C -I -T -c -n -p"
             ;;
         esac
     fi
