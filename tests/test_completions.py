@@ -33,10 +33,11 @@ class Completions(Case):
     def test_options_are_those_of_the_help(self):
         helped = {command: options_of(support.output_of(*command.split(), "--help").decode()) for command in ["", *COMMANDS]}
         for line in (FOLDER / "lx.fish").read_text().splitlines():
-            command = re.search(r"from (\w+)'", line)
-            for name in re.findall(r" -([sl]) (\S+)", line):
-                option = f"-{name[1]}" if name[0] == "s" else f"--{name[1]}"
-                self.check(f"{option} of lx {command and command[1]}", option in helped[command[1] if command else ""], "the help hasn't it")
+            commands = re.search(r"from ([\w ]+)'", line)
+            for kind, name in re.findall(r" -([sl]) (\S+)", line):
+                option = f"-{name}" if kind == "s" else f"--{name}"
+                for command in commands[1].split() if commands else [""]:
+                    self.check(f"{option} of lx {command}", option in helped[command], "the help hasn't it")
         for name in NAMES[:2]:
             words = re.findall(r"(?<=[\s\"'(])--?[a-zA-Z0-9][\w-]*(?=[\s\"')\[])", (FOLDER / name).read_text())
             known = set().union(*helped.values())
