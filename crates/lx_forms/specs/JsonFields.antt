@@ -1,7 +1,6 @@
 -- The fields of a line in JSON that are placed.
-use Rattle.std.specs.Prelude.{◌≡◌, ◌+◌, ◌≤◌, ℕ, Bool, true, if◌then◌else◌, List, [], ◌++◌, codes, decimal, drop, length, take}
+use Rattle.std.specs.Prelude.{ℕ, Bool, if◌then◌else◌, List, [], ◌++◌, codes, decimal}
 use Rattle.std.specs.List.{flat_map}
-use Rattle.std.specs.Str.{is_utf8}
 use Rattle.lx_forms.specs.JsonLines.{string_escaped}
 
 -- a text that is UTF-8, if texts are printed
@@ -12,8 +11,6 @@ string_member printed text = if printed then codes ",\"text\":\"" ++ flat_map st
 abbrev pub numbers_text : ℕ → ℕ → ℕ → List ℕ
 numbers_text line start len = decimal line ++ codes ",\"start\":" ++ decimal start ++ codes ",\"len\":" ++ decimal len
 
--- The text is short, and 16 bytes can be read after it. A printed text is also UTF-8.
-pub record IsShortText (printed : Bool) (from len : ℕ) (bytes : List ℕ) : Type 0 where
-  pub short : len ≤ 96
-  pub within : from + len + 16 ≤ length bytes
-  pub utf8 : printed ≡ true → is_utf8 (take len (drop from bytes)) ≡ true
+-- the part of a line after its prefix
+abbrev pub json_rest : Bool → ℕ → ℕ → ℕ → List ℕ → List ℕ
+json_rest printed line start len text = numbers_text line start len ++ (string_member printed text ++ codes "}\n")

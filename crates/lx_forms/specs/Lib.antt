@@ -9,5 +9,6 @@ pub mod JsonLines
 pub mod JsonParts
 pub mod JsonValues
 pub mod NameLists
+pub mod PartLaws
 pub mod TextLines
 pub mod Views

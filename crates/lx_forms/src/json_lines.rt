@@ -1,31 +1,28 @@
 //! Makes lines in JSON in a form.
 
-ghost use Rattle.std.specs.Prelude.{◌≡◌, ◌+◌, ◌*◌, ◌^◌, ◌<◌, ◌≤◌, ◌++◌, IsTrue, MatchOption, OnOk, codes, decimal, drop, length, take};
+ghost use Rattle.std.specs.Prelude.{◌≡◌, ◌+◌, ◌*◌, ◌^◌, ◌<◌, ◌≤◌, ◌++◌, MatchOption, OnOk, codes, decimal, drop, length, take};
 ghost use Rattle.std.specs.List.{flat_map};
 ghost use Rattle.lx_rules.specs.declared.rule.Kind.{Kind};
-ghost use Rattle.lx_scan.specs.ItemParts.{IsKindAmong, NamesKindAmong, len_of};
+ghost use Rattle.lx_scan.specs.ItemParts.{IsKindAmong, NamesKindAmong};
 ghost use Rattle.lx_piece.specs.Plans.{kinds_of};
-ghost use Rattle.lx_line.specs.Fields.{AreKept};
+ghost use Rattle.lx_line.specs.Fields.{AreKept, AreReady, text_in};
 ghost use Rattle.lx_line.specs.Placed.{Placed};
-ghost use Rattle.lx_line.specs.Prefixes.{ArePrefixesOf, IsKindOf};
-ghost use Rattle.lx_forms.specs.declared.format.Format.{Format};
+ghost use Rattle.lx_line.specs.Prefixes.{IsKindOf};
 ghost use Rattle.lx_forms.specs.Forms.{number_in};
-ghost use Rattle.lx_forms.specs.FormStyles.{prefix_in};
-ghost use Rattle.lx_forms.specs.JsonFields.{IsShortText, numbers_text, string_member};
+ghost use Rattle.lx_forms.specs.JsonFields.{json_rest, numbers_text, string_member};
 ghost use Rattle.lx_forms.specs.JsonLines.{bytes_member, file_members, hex_pair, json_cut_line, json_line_with, kind_value, name_member, string_of, text_member};
 ghost use Rattle.lx_forms.specs.JsonParts.{json_prefix, rest_with, sort_text};
 ghost use Rattle.lx_forms.specs.Views.{form_view};
 
 use crate::form::{Form, name_of};
-use crate::strings::{StringEscape, is_text, is_text_at, place_string, small_digit};
-use crate::style::FormStyle;
+use crate::strings::{StringEscape, is_text, place_string, small_digit};
 use lx_line::{
-    Digits, Draft, Numbers, fits, kind_of, numbers_in, numbers_of, place_4, place_16, place_all,
-    place_byte, place_number, place_small, place_text, push_number, push_text,
+    Digits, Numbers, RestParts, kind_of, numbers_of, place_4, place_16, place_all, place_byte,
+    place_number, place_small, place_text, push_number, push_text,
 };
 use lx_piece::Plan;
 use lx_rules::rule::Kind;
-use lx_scan::{FlatItem, Item};
+use lx_scan::Item;
 use std::alloc::AllocError;
 
 // Greatest length of the name of a file in a kept prefix.
@@ -386,55 +383,28 @@ fn place_printed(
     place_byte(buf, at, b'"')
 }
 
-// Returns true if a text of this length at position `from` of these bytes is short enough, and 16 bytes can be read after it. A printed text must
-// also be UTF-8.
+/// Places the part of a line after its prefix, with a text that is UTF-8 or without one.
 #[inline(always)]
-fn can_be_placed(is_printed: bool, len: usize, bytes: &[u8], from: usize) -> bool
-    requires { from + len ≤ length bytes.now }
-    ensures { IsTrue result → IsShortText is_printed from len bytes.now }
-{
-    fits(len, bytes, from) && (!is_printed || is_text_at(bytes, from, len))
-}
-
-/// Places the line of an item from ready parts. Its text begins at position `from` of these bytes. Returns `None` if the line needs the plain way.
-#[inline(always)]
-pub(crate) fn place_json_line(
-    style: &FormStyle<'_>,
-    draft: &mut Draft,
+pub(crate) fn place_json_rest(
     buf: &mut [u8],
     at: usize,
-    plan: &Plan,
-    file: u32,
-    item: &FlatItem,
-    bytes: &[u8],
-    from: usize,
-) -> Option<usize>
-    requires format { style.now.form.now.format ≡ Format.Json }
-    requires room { at + 800 ≤ length buf.old }
-    requires text { from + len_of item.now ≤ length bytes.now }
-    requires item { NamesKindAmong (kinds_of plan.now) item.now }
-    requires prefixes { ArePrefixesOf (prefix_in (form_view style.now.form.now) plan.now file)
-        draft.old.prefixes }
-    ensures placed { MatchOption result (buf.new ≡ buf.old) (λ end. take end buf.new
-        ≡ take at buf.old ++ json_line_with (form_view style.now.form.now) plan.now.table file item.now
-        (take (len_of item.now) (drop from bytes.now))) }
-    ensures short { MatchOption result (Unit {0}) (λ end. end ≤ at + 800) }
-    ensures len { length buf.new ≡ length buf.old }
-    ensures prefixes { ArePrefixesOf (prefix_in (form_view style.now.form.now) plan.now file)
-        draft.new.prefixes }
+    is_printed: bool,
+    parts: RestParts,
+) -> usize
+    requires ready { AreReady parts }
+    requires room { at + 672 ≤ length buf.old }
+    ensures placed { Placed buf.old buf.new at (json_rest is_printed parts.entry.numbers.line
+        parts.entry.numbers.start parts.entry.numbers.len (text_in parts.entry)) result }
+    ensures short { result ≤ at + 672 }
 {
-    let numbers = numbers_in(item);
-    let is_printed = style.form.text;
-    if !can_be_placed(is_printed, numbers.len, bytes, from) || !draft.digits.follow(numbers) {
-        return None;
-    }
-    let Some(at) = draft
-        .prefixes
-        .place(style, buf, at, plan, file, item.label())
-    else {
-        return None;
-    };
-    let at = place_numbers(buf, at, &draft.digits, numbers);
-    let at = place_printed(buf, at, is_printed, bytes, from, numbers.len);
-    Some(place_4(buf, at, b"}\n  ", 0, 2))
+    let at = place_numbers(buf, at, parts.digits, parts.numbers);
+    let at = place_printed(
+        buf,
+        at,
+        is_printed,
+        parts.bytes,
+        parts.from,
+        parts.numbers.len,
+    );
+    place_4(buf, at, b"}\n  ", 0, 2)
 }

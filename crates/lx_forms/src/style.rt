@@ -4,9 +4,10 @@ ghost use Rattle.lx_forms.specs.Views.{form_view};
 
 use crate::form::Form;
 use crate::format::Format;
-use crate::json_lines::{place_json_line, place_json_prefix, push_json_cut_line, push_json_line};
-use crate::text_lines::{place_text_line, place_text_prefix, push_text_cut_line, push_text_start};
-use lx_line::{Draft, LinePrefix, LineStyle};
+use crate::json_lines::{place_json_prefix, place_json_rest, push_json_cut_line, push_json_line};
+use crate::strings::is_text_at;
+use crate::text_lines::{place_text_prefix, push_text_cut_line, push_text_start};
+use lx_line::{LinePrefix, LineStyle, RestParts, place_fields};
 use lx_piece::Plan;
 use lx_rules::rule::Kind;
 use lx_scan::{FlatItem, Item};
@@ -44,28 +45,36 @@ impl<'a> LinePrefix for FormStyle<'a> {
 
 impl<'a> LineStyle for FormStyle<'a> {
     ghost use Rattle.lx_forms.specs.FormStyleLaws.{form_text, form_whole};
-    ghost use Rattle.lx_forms.specs.FormStyles.{style_of};
+    ghost use Rattle.lx_forms.specs.FormStyles.{PlacesIn, rest_in, style_of};
+    ghost use Rattle.lx_forms.specs.Forms.{passes};
+    ghost use Rattle.lx_forms.specs.PartLaws.{form_parts};
 
     ghost style = { λ s. style_of (form_view s.form.now) };
 
+    ghost lists = { λ s. passes (form_view s.form.now) };
+
+    ghost places = { λ s. PlacesIn (form_view s.form.now) };
+
+    ghost rest = { λ s. rest_in (form_view s.form.now) };
+
     #[inline(always)]
-    fn place_line(
-        &self,
-        draft: &mut Draft,
-        buf: &mut [u8],
-        at: usize,
-        plan: &Plan,
-        file: u32,
-        item: &FlatItem,
-        bytes: &[u8],
-        from: usize,
-    ) -> Option<usize> {
-        if !self.form.passes_flat(item) {
-            return Some(at);
-        }
+    fn has_line(&self, item: &FlatItem) -> bool {
+        self.form.passes_flat(item)
+    }
+
+    #[inline(always)]
+    fn can_place(&self, bytes: &[u8], from: usize, len: usize) -> bool {
         match self.form.format {
-            Format::Lines => place_text_line(self, draft, buf, at, plan, file, item, bytes, from),
-            Format::Json => place_json_line(self, draft, buf, at, plan, file, item, bytes, from),
+            Format::Lines => true,
+            Format::Json => !self.form.text || is_text_at(bytes, from, len),
+        }
+    }
+
+    #[inline(always)]
+    fn place_rest(&self, buf: &mut [u8], at: usize, parts: RestParts) -> usize {
+        match self.form.format {
+            Format::Lines => place_fields(buf, at, self.form.text, parts),
+            Format::Json => place_json_rest(buf, at, self.form.text, parts),
         }
     }
 
@@ -99,4 +108,6 @@ impl<'a> LineStyle for FormStyle<'a> {
     ghost whole = { λ s. form_whole (form_view s.form.now) };
 
     ghost by_text = { λ s. form_text (form_view s.form.now) };
+
+    ghost by_parts = { λ s. form_parts (form_view s.form.now) };
 }

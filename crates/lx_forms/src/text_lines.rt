@@ -1,27 +1,25 @@
 //! Makes lines of fields in a form.
 
-ghost use Rattle.std.specs.Prelude.{◌≡◌, ◌+◌, ◌<◌, ◌≤◌, ◌++◌, ℕ, IfOk, List, MatchOption, OnOk, codes, decimal, drop, false, length, take, true};
+ghost use Rattle.std.specs.Prelude.{◌≡◌, ◌+◌, ◌≤◌, ◌++◌, ℕ, IfOk, List, MatchOption, OnOk, codes, decimal, false, length, true};
 ghost use Rattle.std.specs.List.{flat_map};
 ghost use Rattle.lx_rules.specs.declared.rule.Kind.{Kind};
-ghost use Rattle.lx_scan.specs.ItemParts.{NamesKindAmong, len_of};
+ghost use Rattle.lx_scan.specs.ItemParts.{NamesKindAmong};
 ghost use Rattle.lx_piece.specs.Plans.{kinds_of};
 ghost use Rattle.lx_line.specs.Escapes.{escaped, name_escaped};
 ghost use Rattle.lx_line.specs.Placed.{Placed};
-ghost use Rattle.lx_line.specs.Prefixes.{ArePrefixesOf, IsKindOf};
-ghost use Rattle.lx_forms.specs.declared.format.Format.{Format};
-ghost use Rattle.lx_forms.specs.FormStyles.{prefix_in, text_prefix};
+ghost use Rattle.lx_line.specs.Prefixes.{IsKindOf};
+ghost use Rattle.lx_forms.specs.FormStyles.{text_prefix};
 ghost use Rattle.lx_forms.specs.TextLines.{fields_of, file_text, text_cut_line, text_line_with};
 ghost use Rattle.lx_forms.specs.Views.{form_view};
 
 use crate::form::{Form, name_of};
-use crate::style::FormStyle;
 use lx_line::{
-    Draft, NameEscape, numbers_of, place_any_text, place_byte, place_fields, place_kind,
-    place_number, push_field, push_kind, push_number, push_text,
+    NameEscape, numbers_of, place_any_text, place_byte, place_kind, place_number, push_field,
+    push_kind, push_number, push_text,
 };
 use lx_piece::Plan;
 use lx_rules::rule::Kind;
-use lx_scan::{FlatItem, Item};
+use lx_scan::Item;
 use std::alloc::AllocError;
 
 // Greatest length of a name in a kept prefix.
@@ -137,45 +135,4 @@ pub(crate) fn place_text_prefix(
         return None;
     };
     place_kind(buf, at, plan, kind)
-}
-
-/// Places the line of an item from ready parts. Its text begins at position `from` of these bytes. Returns `None` if the line needs the plain way.
-#[inline(always)]
-pub(crate) fn place_text_line(
-    style: &FormStyle<'_>,
-    draft: &mut Draft,
-    buf: &mut [u8],
-    at: usize,
-    plan: &Plan,
-    file: u32,
-    item: &FlatItem,
-    bytes: &[u8],
-    from: usize,
-) -> Option<usize>
-    requires format { style.now.form.now.format ≡ Format.Lines }
-    requires room { at + 800 ≤ length buf.old }
-    requires text { from + len_of item.now ≤ length bytes.now }
-    requires item { NamesKindAmong (kinds_of plan.now) item.now }
-    requires prefixes { ArePrefixesOf (prefix_in (form_view style.now.form.now) plan.now file)
-        draft.old.prefixes }
-    ensures placed { MatchOption result (buf.new ≡ buf.old) (λ end. take end buf.new
-        ≡ take at buf.old ++ text_line_with (form_view style.now.form.now) plan.now.table file item.now
-        (take (len_of item.now) (drop from bytes.now))) }
-    ensures short { MatchOption result (Unit {0}) (λ end. end ≤ at + 800) }
-    ensures len { length buf.new ≡ length buf.old }
-    ensures prefixes { ArePrefixesOf (prefix_in (form_view style.now.form.now) plan.now file)
-        draft.new.prefixes }
-{
-    place_fields(
-        style,
-        style.form.text,
-        draft,
-        buf,
-        at,
-        plan,
-        file,
-        item,
-        bytes,
-        from,
-    )
 }

@@ -1,12 +1,19 @@
--- Lines that are whole, and lines of texts in the bytes of their file.
+-- Lines that are whole, lines of their parts, and lines of texts in the bytes of their file.
 use Rattle.std.proofs.Common.{ℕ, ◌+◌, ◌-◌, ◌≡◌, arith, inl, inr, take, drop, List, [], ◌∷◌, ◌++◌, refl, sym, ◌∙◌, ap, subst, append_assoc, append-nil}
-use Rattle.std.specs.Prelude.{All, codes, decimal}
+use Rattle.std.specs.Prelude.{⊤, All, codes, decimal, true}
+use Rattle.std.specs.List.{flat_map}
+use Rattle.std.proofs.lemmas.Bool.{true≢false}
 use Rattle.std.proofs.lemmas.List.Elements.{All-weaker}
 use Rattle.lx_tables.specs.Model.{Table}
 use Rattle.lx_scan.specs.declared.item.Item.{Item}
-use Rattle.lx_scan.specs.ItemParts.{IsItemOf, LiesAt, NamesKindAmong, len_of, start_of, text_at, text_of}
+use Rattle.lx_scan.specs.declared.item.Item.TheVariants.{Token, Echo}
+use Rattle.lx_scan.specs.ItemParts.{IsItemOf, LiesAt, NamesKindAmong, kind_of_item, len_of, line_of as line_number, start_of, text_at, text_of}
 use Rattle.lx_piece.specs.Plans.{Planned, bytes_of}
-use Rattle.lx_line.specs.Styles.{AreWhole, HasWholeLines, NeedsText, Style, lines_at, lines_by, plain}
+use Rattle.lx_line.specs.Escapes.{escaped}
+use Rattle.lx_line.specs.Fields.{rest_text}
+use Rattle.lx_line.specs.Lines.{line_with, name_text}
+use Rattle.lx_line.specs.Prefixes.{prefix_text}
+use Rattle.lx_line.specs.Styles.{AreWhole, HasParts, HasWholeLines, NeedsText, Style, lines_at, lines_by, plain}
 
 -- whole lines, and then further ones
 pub whole_both : (xs ys : List ℕ) → AreWhole xs → AreWhole ys → AreWhole (xs ++ ys)
@@ -33,6 +40,26 @@ plain_whole = record {
 
 pub plain_text : NeedsText plain
 plain_text = record { line = λ plan file item. refl }
+
+-- ---- a line of its parts
+
+joined : (f l s n t : List ℕ) → f ++ ((l ++ 32 ∷ []) ++ ((s ++ 32 ∷ []) ++ ((n ++ 32 ∷ []) ++ (flat_map escaped t ++ 10 ∷ [])))) ≡ (((((((f ++ l) ++ 32 ∷ []) ++ s) ++ 32 ∷ []) ++ n) ++ 32 ∷ []) ++ flat_map escaped t) ++ 10 ∷ []
+joined f l s n t = simp append_assoc
+
+-- class and kind in one, and field by field
+fields_of : (f c k : List ℕ) → (f ++ 32 ∷ []) ++ (((c ++ 32 ∷ []) ++ k) ++ 32 ∷ []) ≡ ((((f ++ 32 ∷ []) ++ c) ++ 32 ∷ []) ++ k) ++ 32 ∷ []
+fields_of f c k = simp append_assoc
+
+prefix_and_rest : (plan : Planned) (file : ℕ) (item : Item) (text : List ℕ) → prefix_text plan file (kind_of_item item) ++ rest_text (line_number item) (start_of item) (len_of item) text ≡ line_with plan.table file item text
+prefix_and_rest plan file (Token line start len kind) text =
+    ap (λ (prefix : List ℕ). prefix ++ rest_text line start len text) (fields_of (decimal file) (codes "T") (name_text plan kind))
+    ∙ joined (((((decimal file ++ 32 ∷ []) ++ codes "T") ++ 32 ∷ []) ++ name_text plan kind) ++ 32 ∷ []) (decimal line) (decimal start) (decimal len) text
+prefix_and_rest plan file (Echo line start len) text =
+    ap (λ (prefix : List ℕ). prefix ++ rest_text line start len text) (fields_of (decimal file) (codes "E") (codes "-"))
+    ∙ joined (((((decimal file ++ 32 ∷ []) ++ codes "E") ++ 32 ∷ []) ++ codes "-") ++ 32 ∷ []) (decimal line) (decimal start) (decimal len) text
+
+pub plain_parts : HasParts prefix_text rest_text (λ item. true) (λ text. ⊤) plain
+plain_parts = record { parts = λ plan file item text lists places. prefix_and_rest plan file item text; nothing = λ plan file item text lists. absurd (true≢false lists) }
 
 -- ---- texts in the bytes of their file
 

@@ -1,8 +1,9 @@
 -- Styles of lines.
-use Rattle.std.specs.Prelude.{◌≡◌, ℕ, ◌⊎◌, List, [], ◌∷◌, ◌++◌}
+use Rattle.std.specs.Prelude.{◌≡◌, ℕ, ◌⊎◌, Bool, true, false, List, [], ◌∷◌, ◌++◌, Option}
 use Rattle.std.specs.List.{flat_map}
+use Rattle.lx_rules.specs.declared.rule.Kind.{Kind}
 use Rattle.lx_tables.specs.Model.{Table}
-use Rattle.lx_scan.specs.ItemParts.{text_at, text_of}
+use Rattle.lx_scan.specs.ItemParts.{kind_of_item, len_of, line_of as line_number, start_of, text_at, text_of}
 use Rattle.lx_scan.specs.declared.item.Item.{Item}
 use Rattle.lx_piece.specs.Plans.{Planned, bytes_of}
 use Rattle.lx_line.specs.Lines.{line_of, line_with, cut_line as plain_cut_line}
@@ -39,6 +40,11 @@ pub record HasWholeLines (style : Style) : Type 0 where
 -- The line of an item needs only the tables, the number of the file and the item's text, of all that a plan has.
 pub record NeedsText (style : Style) : Type 0 where
   pub line : (plan : Planned) (file : ℕ) (item : Item) → style.line plan file item ≡ style.line_with plan.table file item (text_of (bytes_of plan file) item)
+
+-- The line of an item is its prefix and the rest, if it has a line and its text can be placed. That of an item without one is nothing.
+pub record HasParts (prefix : Planned → ℕ → Option Kind → List ℕ) (rest : ℕ → ℕ → ℕ → List ℕ → List ℕ) (lists : Item → Bool) (places : List ℕ → Type 0) (style : Style) : Type 0 where
+  pub parts : (plan : Planned) (file : ℕ) (item : Item) (text : List ℕ) → lists item ≡ true → places text → prefix plan file (kind_of_item item) ++ rest (line_number item) (start_of item) (len_of item) text ≡ style.line_with plan.table file item text
+  pub nothing : (plan : Planned) (file : ℕ) (item : Item) (text : List ℕ) → lists item ≡ false → style.line_with plan.table file item text ≡ []
 
 -- the purpose of a draft: a style and a plan
 pub record Drafted (L : Type 0) : Type 0 where

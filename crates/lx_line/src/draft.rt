@@ -1,13 +1,12 @@
 //! Places lines one after the other from ready parts.
 
 ghost use Rattle.std.specs.Prelude.{◌≡◌, ◌+◌, ◌<◌, ◌≤◌, ◌++◌, All, MatchOption, drop, length, take};
-ghost use Rattle.lx_scan.specs.ItemParts.{LiesAt, NamesKindAmong, kind_of_item, len_of, line_of, start_of};
+ghost use Rattle.lx_scan.specs.ItemParts.{LiesAt, NamesKindAmong, len_of};
 ghost use Rattle.lx_piece.specs.Plans.{kinds_of};
-ghost use Rattle.lx_line.specs.Fields.{rest_with};
 ghost use Rattle.lx_line.specs.Prefixes.{ArePrefixesOf};
 ghost use Rattle.lx_line.specs.Styles.{lines_at};
 
-use crate::fields::{Digits, fits, numbers_in, place_rest};
+use crate::fields::{Digits, RestParts, fits, numbers_in};
 use crate::prefixes::Prefixes;
 use crate::style::{LinePrefix, LineStyle};
 use lx_piece::Plan;
@@ -52,6 +51,56 @@ impl Draft {
         self.prefixes = Prefixes::new(style, plan, file);
     }
 
+    /// Places the line of an item, or nothing for an item without one. Its text begins at position `from` of these bytes. Returns `None` if the line
+    /// needs the plain way: it is long, or its text is near the end of the bytes, after which 16 bytes can't be read.
+    #[inline(always)]
+    fn place_line<L: LineStyle>(
+        &mut self,
+        style: &L,
+        buf: &mut [u8],
+        at: usize,
+        plan: &Plan,
+        file: u32,
+        item: &FlatItem,
+        bytes: &[u8],
+        from: usize,
+    ) -> Option<usize>
+        requires room { at + 800 ≤ length buf.old }
+        requires text { from + len_of item.now ≤ length bytes.now }
+        requires item { NamesKindAmong (kinds_of plan.now) item.now }
+        requires prefixes { ArePrefixesOf (L.prefix style.now plan.now file) self.old.prefixes }
+        ensures placed { MatchOption result (buf.new ≡ buf.old) (λ end. take end buf.new
+            ≡ take at buf.old ++ (L.style style.now).line_with plan.now.table file item.now
+            (take (len_of item.now) (drop from bytes.now))) }
+        ensures short { MatchOption result (Unit {0}) (λ end. end ≤ at + 800) }
+        ensures len { length buf.new ≡ length buf.old }
+        ensures prefixes { ArePrefixesOf (L.prefix style.now plan.now file) self.new.prefixes }
+    {
+        if !style.has_line(item) {
+            return Some(at);
+        }
+        let numbers = numbers_in(item);
+        if !fits(numbers.len, bytes, from)
+            || !style.can_place(bytes, from, numbers.len)
+            || !self.digits.follow(numbers)
+        {
+            return None;
+        }
+        let Some(at) = self
+            .prefixes
+            .place(style, buf, at, plan, file, item.label())
+        else {
+            return None;
+        };
+        let parts = RestParts {
+            digits: &self.digits,
+            numbers,
+            bytes,
+            from,
+        };
+        Some(style.place_rest(buf, at, parts))
+    }
+
     /// Places the lines of the first items, up to one that has no room or needs the plain way. Their texts are in these bytes, which begin at
     /// position `base` of the file.
     #[inline(never)]
@@ -85,7 +134,7 @@ impl Draft {
                 return FirstLines { count, end };
             }
             let from = item.start() - base;
-            let Some(next) = style.place_line(self, buf, end, plan, file, item, bytes, from) else {
+            let Some(next) = self.place_line(style, buf, end, plan, file, item, bytes, from) else {
                 return FirstLines { count, end };
             };
             end = next;
@@ -93,44 +142,4 @@ impl Draft {
         }
         FirstLines { count, end }
     }
-}
-
-/// Places the line of an item as fields with a space between each two: after the prefix line, start and length, and if texts are printed the text. It
-/// begins at position `from` of these bytes. Returns `None` if the line needs the plain way.
-#[inline(always)]
-pub fn place_fields<L: LinePrefix>(
-    prefix: &L,
-    is_printed: bool,
-    draft: &mut Draft,
-    buf: &mut [u8],
-    at: usize,
-    plan: &Plan,
-    file: u32,
-    item: &FlatItem,
-    bytes: &[u8],
-    from: usize,
-) -> Option<usize>
-    requires room { at + 800 ≤ length buf.old }
-    requires text { from + len_of item.now ≤ length bytes.now }
-    requires item { NamesKindAmong (kinds_of plan.now) item.now }
-    requires prefixes { ArePrefixesOf (L.prefix prefix.now plan.now file) draft.old.prefixes }
-    ensures placed { MatchOption result (buf.new ≡ buf.old) (λ end. take end buf.new ≡ take at buf.old
-        ++ (L.prefix prefix.now plan.now file (kind_of_item item.now)
-        ++ rest_with is_printed (line_of item.now) (start_of item.now) (len_of item.now)
-        (take (len_of item.now) (drop from bytes.now)))) }
-    ensures short { MatchOption result (Unit {0}) (λ end. end ≤ at + 800) }
-    ensures len { length buf.new ≡ length buf.old }
-    ensures prefixes { ArePrefixesOf (L.prefix prefix.now plan.now file) draft.new.prefixes }
-{
-    let numbers = numbers_in(item);
-    if !fits(numbers.len, bytes, from) || !draft.digits.follow(numbers) {
-        return None;
-    }
-    let Some(at) = draft
-        .prefixes
-        .place(prefix, buf, at, plan, file, item.label())
-    else {
-        return None;
-    };
-    Some(place_rest(buf, at, &draft.digits, numbers, is_printed, bytes, from))
 }

@@ -2,7 +2,7 @@
 
 ghost use Rattle.std.specs.Prelude.{◌≡◌, ◌+◌, ◌<◌, ◌≤◌, IsTrue, decimal, drop, length, take};
 ghost use Rattle.lx_scan.specs.ItemParts.{kind_of_item, line_of, start_of, len_of};
-ghost use Rattle.lx_line.specs.Fields.{AreKept, rest_with};
+ghost use Rattle.lx_line.specs.Fields.{AreKept, AreReady, rest_with, text_in};
 ghost use Rattle.lx_line.specs.Placed.{Placed};
 
 use crate::decimals::place_short;
@@ -125,25 +125,31 @@ pub fn place_small(buf: &mut [u8], at: usize, number: usize) -> usize
     place_short(buf, at, number) - 1
 }
 
-/// Places the part of a line after its prefix, with the text, which begins at position `from` of these bytes, or without it.
+/// The parts of a line after its prefix: the digits that it shares with nearby lines, its numbers, and its text, which begins at position `from` of
+/// these bytes.
+#[derive(Clone, Copy, Drop)]
+pub struct RestParts<'a> {
+    pub digits: &'a Digits,
+    pub numbers: Numbers,
+    pub bytes: &'a [u8],
+    pub from: usize,
+}
+
+/// Places the part of a line after its prefix as fields with a space between each two: line, start and length, and if texts are printed the text.
 #[inline(always)]
-pub(crate) fn place_rest(
-    buf: &mut [u8],
-    at: usize,
-    digits: &Digits,
-    numbers: Numbers,
-    is_printed: bool,
-    bytes: &[u8],
-    from: usize,
-) -> usize
-    requires digits { AreKept digits.now numbers }
-    requires len { numbers.len ≤ 96 }
-    requires text { from + numbers.len + 16 ≤ length bytes.now }
+pub fn place_fields(buf: &mut [u8], at: usize, is_printed: bool, parts: RestParts) -> usize
+    requires ready { AreReady parts }
     requires room { at + 640 ≤ length buf.old }
-    ensures placed { Placed buf.old buf.new at (rest_with is_printed numbers.line numbers.start
-        numbers.len (take numbers.len (drop from bytes.now))) result }
+    ensures placed { Placed buf.old buf.new at (rest_with is_printed parts.entry.numbers.line
+        parts.entry.numbers.start parts.entry.numbers.len (text_in parts.entry)) result }
     ensures short { result ≤ at + 640 }
 {
+    let RestParts {
+        digits,
+        numbers,
+        bytes,
+        from,
+    } = parts;
     let Numbers { line, start, len } = numbers;
     let at = digits.line.place(buf, at, line);
     let at = digits.start.place(buf, at, start as u64);

@@ -15,9 +15,9 @@ mod style;
 mod texts;
 
 pub use buffer::LineBuffer;
-pub use draft::{Draft, place_fields};
+pub use draft::Draft;
 pub use escape::{Escape, NameEscape, TextEscape};
-pub use fields::{Digits, Numbers, fits, kind_of, numbers_in, numbers_of, place_small};
+pub use fields::{Digits, Numbers, RestParts, kind_of, numbers_of, place_fields, place_small};
 pub use lines::{PlanDraft, push_each, push_lines};
 pub use place::{place_4, place_16, place_all, place_byte};
 pub use plain::{

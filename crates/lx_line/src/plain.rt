@@ -8,9 +8,8 @@ ghost use Rattle.lx_line.specs.Lines.{class_text, name_text, kind_text, cut_line
 ghost use Rattle.lx_line.specs.Placed.{Placed};
 ghost use Rattle.lx_line.specs.Prefixes.{IsKindOf, class_and_kind};
 
-use crate::draft::{Draft, place_fields};
 use crate::escape::{Escape, TextEscape};
-use crate::fields::numbers_of;
+use crate::fields::{RestParts, numbers_of, place_fields};
 use crate::place::{place_all, place_byte};
 use crate::shared::place_number;
 use crate::style::{LinePrefix, LineStyle};
@@ -238,24 +237,32 @@ impl LinePrefix for PlainStyle {
 }
 
 impl LineStyle for PlainStyle {
-    ghost use Rattle.lx_line.specs.StyleLaws.{plain_text, plain_whole};
+    ghost use Rattle.std.specs.Prelude.{⊤, true};
+    ghost use Rattle.lx_line.specs.Fields.{rest_text};
+    ghost use Rattle.lx_line.specs.StyleLaws.{plain_parts, plain_text, plain_whole};
     ghost use Rattle.lx_line.specs.Styles.{plain};
 
     ghost style = { λ _. plain };
 
+    ghost lists = { λ _ _. true };
+
+    ghost places = { λ _ _. ⊤ };
+
+    ghost rest = { λ _. rest_text };
+
     #[inline(always)]
-    fn place_line(
-        &self,
-        draft: &mut Draft,
-        buf: &mut [u8],
-        at: usize,
-        plan: &Plan,
-        file: u32,
-        item: &FlatItem,
-        bytes: &[u8],
-        from: usize,
-    ) -> Option<usize> {
-        place_fields(self, true, draft, buf, at, plan, file, item, bytes, from)
+    fn has_line(&self, _item: &FlatItem) -> bool {
+        true
+    }
+
+    #[inline(always)]
+    fn can_place(&self, _bytes: &[u8], _from: usize, _len: usize) -> bool {
+        true
+    }
+
+    #[inline(always)]
+    fn place_rest(&self, buf: &mut [u8], at: usize, parts: RestParts) -> usize {
+        place_fields(buf, at, true, parts)
     }
 
     fn push_start(
@@ -277,4 +284,6 @@ impl LineStyle for PlainStyle {
     ghost whole = { λ _. plain_whole };
 
     ghost by_text = { λ _. plain_text };
+
+    ghost by_parts = { λ _. plain_parts };
 }

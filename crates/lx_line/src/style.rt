@@ -1,16 +1,18 @@
 //! Styles of lines.
 
-ghost use Rattle.std.specs.Prelude.{◌≡◌, ◌+◌, ◌<◌, ◌≤◌, ◌++◌, ℕ, IfOk, List, MatchOption, OnOk, Option, codes, drop, false, length, take, true};
+ghost use Rattle.std.specs.Prelude.{◌≡◌, ◌+◌, ◌<◌, ◌≤◌, ◌++◌, ℕ, Bool, IfOk, IsTrue, List, MatchOption, OnOk, Option, codes, drop, false, length, take, true};
 ghost use Rattle.std.specs.List.{flat_map};
 ghost use Rattle.lx_rules.specs.declared.rule.Kind.{Kind};
-ghost use Rattle.lx_scan.specs.ItemParts.{NamesKindAmong, len_of};
+ghost use Rattle.lx_scan.specs.declared.item.Item.{Item};
+ghost use Rattle.lx_scan.specs.ItemParts.{NamesKindAmong};
 ghost use Rattle.lx_piece.specs.Plans.{Planned, kinds_of};
 ghost use Rattle.lx_line.specs.Escapes.{escaped};
+ghost use Rattle.lx_line.specs.Fields.{AreReady, text_in};
 ghost use Rattle.lx_line.specs.Placed.{Placed};
-ghost use Rattle.lx_line.specs.Prefixes.{ArePrefixesOf, IsKindOf};
-ghost use Rattle.lx_line.specs.Styles.{HasWholeLines, NeedsText, Style};
+ghost use Rattle.lx_line.specs.Prefixes.{IsKindOf};
+ghost use Rattle.lx_line.specs.Styles.{HasParts, HasWholeLines, NeedsText, Style};
 
-use crate::draft::Draft;
+use crate::fields::RestParts;
 use lx_piece::Plan;
 use lx_rules::rule::Kind;
 use lx_scan::{FlatItem, Item};
@@ -43,29 +45,32 @@ pub trait LineStyle: LinePrefix {
     /// The line of an item, or nothing for an item without one, and the line of a file whose reading failed.
     ghost style: { Self → Style };
 
-    /// Places the line of an item whose text begins at position `from` of these bytes. The plan need not have the item: only its tables count.
-    /// Returns `None` if it needs the plain way: for a long line, and for a text near the end of the bytes, after which 16 bytes can't be read.
-    fn place_line(
-        &self,
-        draft: &mut Draft,
-        buf: &mut [u8],
-        at: usize,
-        plan: &Plan,
-        file: u32,
-        item: &FlatItem,
-        bytes: &[u8],
-        from: usize,
-    ) -> Option<usize>
-        requires room { at + 800 ≤ length buf.old }
-        requires text { from + len_of item.now ≤ length bytes.now }
-        requires item { NamesKindAmong (kinds_of plan.now) item.now }
-        requires prefixes { ArePrefixesOf (Self.prefix self.now plan.now file) draft.old.prefixes }
-        ensures placed { MatchOption result (buf.new ≡ buf.old) (λ end. take end buf.new
-            ≡ take at buf.old ++ (style self.now).line_with plan.now.table file item.now
-            (take (len_of item.now) (drop from bytes.now))) }
-        ensures short { MatchOption result (Unit {0}) (λ end. end ≤ at + 800) }
-        ensures len { length buf.new ≡ length buf.old }
-        ensures prefixes { ArePrefixesOf (Self.prefix self.now plan.now file) draft.new.prefixes };
+    /// True for an item that has a line.
+    ghost lists: { Self → Item → Bool };
+
+    /// The texts after which the rest of a line can be placed.
+    ghost places: { Self → List ℕ → Type 0 };
+
+    /// The part of a line after its prefix, by line, start and length of an item, and its text.
+    ghost rest: { Self → ℕ → ℕ → ℕ → List ℕ → List ℕ };
+
+    /// Returns true if an item has a line.
+    fn has_line(&self, item: &FlatItem) -> bool
+        ensures { result ≡ lists self.now item.now };
+
+    /// Returns true if a text of this length, which begins at position `from` of these bytes, can be placed. 16 bytes after it can be read too.
+    fn can_place(&self, bytes: &[u8], from: usize, len: usize) -> bool
+        requires { from + len + 16 ≤ length bytes.now }
+        ensures { IsTrue result → places self.now (take len (drop from bytes.now)) };
+
+    /// Places the part of a line after its prefix.
+    fn place_rest(&self, buf: &mut [u8], at: usize, parts: RestParts) -> usize
+        requires ready { AreReady parts }
+        requires places { places self.now (text_in parts) }
+        requires room { at + 672 ≤ length buf.old }
+        ensures placed { Placed buf.old buf.new at (rest self.now parts.entry.numbers.line
+            parts.entry.numbers.start parts.entry.numbers.len (text_in parts.entry)) result }
+        ensures short { result ≤ at + 672 };
 
     /// Appends the line of an item with this text, up to the text. The plan need not have the item: only its tables count. Returns true if the line
     /// goes on with the text, escaped, and a line feed, and false if it is whole. If an allocation fails, a part of it was appended.
@@ -93,4 +98,6 @@ pub trait LineStyle: LinePrefix {
     ghost whole: { (s : Self) → HasWholeLines (style s) };
 
     ghost by_text: { (s : Self) → NeedsText (style s) };
+
+    ghost by_parts: { (s : Self) → HasParts (Self.prefix s) (rest s) (lists s) (places s) (style s) };
 }
