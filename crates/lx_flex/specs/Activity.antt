@@ -1,5 +1,5 @@
 -- The conditions in which a rule is active (flex's manual, "Start Conditions").
-use Rattle.std.specs.Prelude.{◌+◌, ◌||◌, if◌then◌else◌, nat_eq, ℕ, Bool, List, [], ◌∷◌, Option, Some, None, codes, filter}
+use Rattle.std.specs.Prelude.{◌+◌, ◌||◌, if◌then◌else◌, nat_eq, ℕ, List, [], ◌∷◌, Option, Some, None, codes, filter}
 use Rattle.std.specs.Cmp.Lexicographic.{pointwise}
 use Rattle.std.specs.List.{list_any, range_with_len}
 

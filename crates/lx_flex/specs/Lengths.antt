@@ -1,5 +1,5 @@
 -- The lengths and bytes of the texts of an expression.
-use Rattle.std.specs.Prelude.{◌≡◌, ◌↔◌, ◌+◌, ◌*◌, ◌==◌, ◌&&◌, ◌||◌, nat_lt, IsTrue, ℕ, zero, suc, Bool, true, false, All, List, [], ◌∷◌, Option, Some, None, length}
+use Rattle.std.specs.Prelude.{◌≡◌, ◌↔◌, ◌+◌, ◌*◌, ◌==◌, ◌&&◌, ◌||◌, nat_lt, IsTrue, ℕ, zero, suc, Bool, true, false, All, List, [], Option, Some, None, length}
 use Rattle.std.specs.FinSet as set
 use Rattle.lx_ere.specs.Bounds.{has_ordered_bounds}
 use Rattle.lx_ere.specs.Matching.{Matches, no_names}

@@ -250,50 +250,46 @@ fn take_letters<'a>(
     Ok(())
 }
 
-/// Takes a word that begins with `--`.
-fn take_name<'a>(
-    alloc: Global,
+/// The meaning of a long option that is no switch.
+#[derive(Clone, Copy)]
+enum NameUse {
+    Tells(FlexAnswer),
+    /// It asks for the header.
+    Header,
+    /// It has a value.
+    Value,
+    Unsupported,
+}
+
+const NAMES: &[(&[u8], NameUse)] = &[
+    (b"help", NameUse::Tells(FlexAnswer::Help)),
+    (b"version", NameUse::Tells(FlexAnswer::Version)),
+    (b"header-file", NameUse::Header),
+    (b"header", NameUse::Header),
+    (b"outfile", NameUse::Value),
+    (b"prefix", NameUse::Value),
+    (b"form", NameUse::Value),
+    (b"define", NameUse::Value),
+    (b"tables-file", NameUse::Unsupported),
+    (b"skel", NameUse::Unsupported),
+    (b"yyclass", NameUse::Unsupported),
+];
+
+fn use_of(name: &[u8]) -> Option<NameUse> {
+    for (known, name_use) in NAMES {
+        if *known == name {
+            return Some(*name_use);
+        }
+    }
+    None
+}
+
+/// Switches the option with this name on, or off where it begins with `no`.
+fn switch_name<'a>(
     command: &mut FlexCommand<'a>,
-    words: &mut Words<'a>,
     word: &'a str,
+    name: &[u8],
 ) -> Result<(), FlagFault<'a>> {
-    let text = skip(2, word.as_bytes());
-    let equals = place_of(text, b"=");
-    let name = front(equals.unwrap_or(text.len()), text);
-    if let Some(at) = equals {
-        let Some(value) = word.get(at.saturating_add(3)..) else {
-            return Err(FlagFault::NoValue(word));
-        };
-        return set_value(alloc, command, word, name, value);
-    }
-    if name == b"help".as_slice() {
-        command.told = Some(FlexAnswer::Help);
-        return Ok(());
-    }
-    if name == b"version".as_slice() {
-        command.told = Some(FlexAnswer::Version);
-        return Ok(());
-    }
-    if name == b"header-file".as_slice() || name == b"header".as_slice() {
-        command.header = true;
-        return Ok(());
-    }
-    if name == b"tables-file".as_slice()
-        || name == b"skel".as_slice()
-        || name == b"yyclass".as_slice()
-    {
-        return Err(FlagFault::Unsupported(word));
-    }
-    if name == b"outfile".as_slice()
-        || name == b"prefix".as_slice()
-        || name == b"form".as_slice()
-        || name == b"define".as_slice()
-    {
-        let Some(value) = words.next() else {
-            return Err(FlagFault::NoValue(word));
-        };
-        return set_value(alloc, command, word, name, value);
-    }
     if IDLE_NAMES.contains(&name) {
         return Ok(());
     }
@@ -305,6 +301,70 @@ fn take_name<'a>(
         return Ok(());
     }
     Err(FlagFault::Unknown(word))
+}
+
+/// Takes a word of `--` and this name. Its value, if it has one, is the next word.
+fn take_plain_name<'a>(
+    alloc: Global,
+    command: &mut FlexCommand<'a>,
+    words: &mut Words<'a>,
+    word: &'a str,
+    name: &[u8],
+) -> Result<(), FlagFault<'a>> {
+    match use_of(name) {
+        Some(NameUse::Tells(answer)) => command.told = Some(answer),
+        Some(NameUse::Header) => command.header = true,
+        Some(NameUse::Value) => {
+            return match words.next() {
+                Some(value) => set_value(alloc, command, word, name, value),
+                None => Err(FlagFault::NoValue(word)),
+            };
+        }
+        Some(NameUse::Unsupported) => return Err(FlagFault::Unsupported(word)),
+        None => return switch_name(command, word, name),
+    }
+    Ok(())
+}
+
+/// Takes a word that begins with `--`.
+fn take_name<'a>(
+    alloc: Global,
+    command: &mut FlexCommand<'a>,
+    words: &mut Words<'a>,
+    word: &'a str,
+) -> Result<(), FlagFault<'a>> {
+    let text = skip(2, word.as_bytes());
+    let Some(at) = place_of(text, b"=") else {
+        return take_plain_name(alloc, command, words, word, text);
+    };
+    match word.get(at.saturating_add(3)..) {
+        Some(value) => set_value(alloc, command, word, front(at, text), value),
+        None => Err(FlagFault::NoValue(word)),
+    }
+}
+
+/// Takes a word. After `--` all further ones are names of files.
+fn take_word<'a>(
+    alloc: Global,
+    command: &mut FlexCommand<'a>,
+    left: &mut Words<'a>,
+    word: &'a str,
+    operands_alone: &mut bool,
+) -> Result<(), FlagFault<'a>> {
+    let text = word.as_bytes();
+    if *operands_alone || text.len() < 2 || front(1, text) != b"-".as_slice() {
+        command.files.push(word)?;
+        return Ok(());
+    }
+    if text == b"--".as_slice() {
+        *operands_alone = true;
+        return Ok(());
+    }
+    if front(2, text) == b"--".as_slice() {
+        take_name(alloc, command, left, word)
+    } else {
+        take_letters(alloc, command, left, word)
+    }
 }
 
 /// Reads the words after the name of the command. With `posix`, patterns are those of POSIX.
@@ -329,16 +389,7 @@ pub fn read_command<'a>(
         let Some(word) = left.next() else {
             break;
         };
-        let text = word.as_bytes();
-        if operands_alone || text.len() < 2 || front(1, text) != b"-".as_slice() {
-            command.files.push(word)?;
-        } else if text == b"--".as_slice() {
-            operands_alone = true;
-        } else if front(2, text) == b"--".as_slice() {
-            take_name(alloc, &mut command, &mut left, word)?;
-        } else {
-            take_letters(alloc, &mut command, &mut left, word)?;
-        }
+        take_word(alloc, &mut command, &mut left, word, &mut operands_alone)?;
     }
     Ok(command)
 }

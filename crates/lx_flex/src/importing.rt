@@ -1,6 +1,6 @@
 //! Imports a whole flex file.
 
-ghost use Rattle.std.specs.Prelude.{◌≡◌, ◌<◌, map, length, IfErr, IfOk, OnOk};
+ghost use Rattle.std.specs.Prelude.{◌≡◌, ◌<◌, map, length, vec_len, IfErr, IfOk, OnOk};
 ghost use Rattle.lx_flex.specs.Faults.{HasReports};
 ghost use Rattle.lx_flex.specs.Imported.{IsImported};
 ghost use Rattle.lx_flex.specs.views.{definition_of, rule_of};
@@ -15,6 +15,7 @@ use crate::options::FlexOptions;
 use crate::printing::{cases, code_kind, specification};
 use crate::report::{ImportCause, ImportFault, ImportReport, ReadFault, Reports, stop};
 use crate::rules::read_rules;
+use lx_flex_pattern::NamedPatterns;
 use lx_rules::Condition;
 use lx_rules::limits::MAX_SPECIFICATION_BYTES;
 use std::alloc::{AllocError, Global};
@@ -81,6 +82,72 @@ fn rules_of(alloc: Global, rules: Vec<JudgedRule>) -> Result<Vec<ImportedRule>, 
     Ok(list)
 }
 
+/// Refuses tables, and a text that is too long.
+fn refuse_at_once(text: &[u8]) -> Result<(), ReadFault> {
+    if text.starts_with(b"lx-tables ") {
+        return stop(FilePlace::WHOLE, ImportCause::Tables);
+    }
+    if text.len() > MAX_SPECIFICATION_BYTES {
+        return stop(FilePlace::WHOLE, ImportCause::TooLong);
+    }
+    Ok(())
+}
+
+/// Reads the definitions, and reports options that are left out.
+fn declared_of(
+    alloc: Global,
+    cursor: &mut TextCursor,
+    reports: &mut Reports,
+) -> Result<Declared, ReadFault>
+    ensures { IfOk result (λ d. vec_len d.conditions < 65536) }
+{
+    let declared = read_definitions(alloc, cursor, FlexOptions::new(alloc), reports)?;
+    if let Some(place) = declared.options.unrelated {
+        reports.add(place, ImportCause::OptionsLeftOut, false)?;
+    }
+    Ok(declared)
+}
+
+/// Reads the rules, and judges them.
+fn judged_rules(
+    alloc: Global,
+    text: &[u8],
+    cursor: &mut TextCursor,
+    declared: &Declared,
+    names: &NamedPatterns,
+    reports: &mut Reports,
+) -> Result<Vec<JudgedRule>, ReadFault>
+    requires { vec_len declared.now.conditions < 65536 }
+{
+    let raw = read_rules(alloc, cursor, declared, names, reports)?;
+    judge_first_code(alloc, text, declared, raw.first_code.as_slice(), reports)?;
+    judge_rules(alloc, text, declared, raw.list, reports)
+}
+
+/// Prints the definitions and rules of a file.
+fn printed(
+    alloc: Global,
+    options: ImportOptions,
+    declared: &Declared,
+    definitions: Vec<ImportedDefinition>,
+    rules: Vec<JudgedRule>,
+) -> Result<ImportDraft, AllocError> {
+    let kind = code_kind(alloc, rules.as_slice())?;
+    Ok(ImportDraft {
+        specification: specification(
+            alloc,
+            declared,
+            definitions.as_slice(),
+            rules.as_slice(),
+            kind.as_slice(),
+        )?,
+        cases: cases(alloc, options, rules.as_slice(), kind.as_slice())?,
+        conditions: conditions_of(alloc, declared)?,
+        definitions,
+        rules: rules_of(alloc, rules)?,
+    })
+}
+
 /// Reads and prints the file.
 fn draft_of(
     alloc: Global,
@@ -88,36 +155,12 @@ fn draft_of(
     options: ImportOptions,
     reports: &mut Reports,
 ) -> Result<ImportDraft, ReadFault> {
-    if text.starts_with(b"lx-tables ") {
-        return stop(FilePlace::WHOLE, ImportCause::Tables);
-    }
-    if text.len() > MAX_SPECIFICATION_BYTES {
-        return stop(FilePlace::WHOLE, ImportCause::TooLong);
-    }
+    refuse_at_once(text)?;
     let mut cursor = TextCursor::new(text);
-    let options_given = FlexOptions::new(alloc);
-    let declared = read_definitions(alloc, &mut cursor, options_given, reports)?;
-    if let Some(place) = declared.options.unrelated {
-        reports.add(place, ImportCause::OptionsLeftOut, false)?;
-    }
+    let declared = declared_of(alloc, &mut cursor, reports)?;
     let PatternNames { names, definitions } = naming_of(alloc, &declared)?;
-    let raw = read_rules(alloc, &mut cursor, &declared, &names, reports)?;
-    judge_first_code(alloc, text, &declared, raw.first_code.as_slice(), reports)?;
-    let rules = judge_rules(alloc, text, &declared, raw.list, reports)?;
-    let kind = code_kind(alloc, rules.as_slice())?;
-    Ok(ImportDraft {
-        specification: specification(
-            alloc,
-            &declared,
-            definitions.as_slice(),
-            rules.as_slice(),
-            kind.as_slice(),
-        )?,
-        cases: cases(alloc, options, rules.as_slice(), kind.as_slice())?,
-        conditions: conditions_of(alloc, &declared)?,
-        definitions,
-        rules: rules_of(alloc, rules)?,
-    })
+    let rules = judged_rules(alloc, text, &mut cursor, &declared, &names, reports)?;
+    Ok(printed(alloc, options, &declared, definitions, rules)?)
 }
 
 /// Returns the place in the file of the rule that lx rejects. `line` is its line in the printed text, whose last lines are the rules.

@@ -48,53 +48,76 @@ fn judged_action(
     }
 }
 
-/// Removes the rules for `<<EOF>>`. Returns the others from the last to the first. A rule whose action is that of a removed one gets that action.
+/// A rule that is kept: with its pattern in lx, a flag for trailing context that lx doesn't have, and its action.
+type KeptRule = (ImportedRule, bool, FlexAction);
+
+/// The rules that are kept, from the last to the first, and the action of the rule after them, if that one is removed.
+#[derive(Drop)]
+struct KeptRules {
+    list: Vec<KeptRule>,
+    carried: Option<FlexAction>,
+}
+
+impl KeptRules {
+    /// Removes the rule before the others if it is for `<<EOF>>`, otherwise keeps it. A rule whose action is that of a removed one gets that action.
+    fn add(
+        &mut self,
+        rule: FlexRule,
+        action: FlexAction,
+        reports: &mut Reports,
+    ) -> Result<(), AllocError> {
+        let FlexRule {
+            place,
+            conditions,
+            reading,
+            action: _written,
+        } = rule;
+        let is_bar = matches!(action, FlexAction::Bar);
+        let Some(reading) = reading else {
+            if !is_bar {
+                self.carried = Some(action);
+            }
+            return reports.add(place, ImportCause::EofRule, false);
+        };
+        let carried = self.carried.take();
+        let action = if is_bar {
+            carried.unwrap_or(FlexAction::Bar)
+        } else {
+            action
+        };
+        let (pattern, trailing) = with_newline(reading);
+        let rule = ImportedRule {
+            place,
+            conditions,
+            pattern,
+        };
+        self.list.push((rule, trailing, action))?;
+        Ok(())
+    }
+}
+
+/// Removes the rules for `<<EOF>>`. Returns the others.
 fn without_eof_rules(
     alloc: Global,
     text: &[u8],
     declared: &Declared,
     rules: Vec<FlexRule>,
     reports: &mut Reports,
-) -> Result<Vec<(ImportedRule, bool, FlexAction)>, AllocError> {
+) -> Result<Vec<KeptRule>, AllocError> {
     let mut left = rules;
-    let mut kept = Vec::new(alloc);
-    let mut carried: Option<FlexAction> = None;
+    let mut kept = KeptRules {
+        list: Vec::new(alloc),
+        carried: None,
+    };
     for _ in 0..left.len() {
-        let Some(raw) = left.pop() else {
+        let Some(rule) = left.pop() else {
             break;
         };
-        let FlexRule {
-            place,
-            conditions,
-            reading,
-            action,
-        } = raw;
-        let action = judged_action(alloc, text, declared, action)?;
-        match reading {
-            None => {
-                reports.add(place, ImportCause::EofRule, false)?;
-                if !matches!(action, FlexAction::Bar) {
-                    carried = Some(action);
-                }
-            }
-            Some(reading) => {
-                let action = match action {
-                    FlexAction::Bar => carried.take().unwrap_or(FlexAction::Bar),
-                    other => other,
-                };
-                carried = None;
-                let (pattern, trailing) = with_newline(reading);
-                let rule = ImportedRule {
-                    place,
-                    conditions,
-                    pattern,
-                };
-                kept.push((rule, trailing, action))?;
-            }
-        }
+        let action = judged_action(alloc, text, declared, rule.action)?;
+        kept.add(rule, action, reports)?;
     }
-    kept.reverse();
-    Ok(kept)
+    kept.list.reverse();
+    Ok(kept.list)
 }
 
 /// Reports what lx can't do of the code before the first rule.
@@ -207,6 +230,24 @@ fn text_of(
     }
 }
 
+/// Reports all remarks on a rule, and adds it as lx has it, if its pattern can be printed.
+fn judge_rule(
+    alloc: Global,
+    reports: &mut Reports,
+    kept: KeptRule,
+    behind_bar: bool,
+    is_last: bool,
+    judged: &mut Vec<JudgedRule>,
+) -> Result<(), ReadFault> {
+    let (rule, trailing, action) = kept;
+    judge_pattern(reports, &rule, trailing, behind_bar)?;
+    judge_action(reports, rule.place, &action, is_last)?;
+    if let Some(text) = text_of(alloc, reports, &rule)? {
+        judged.push(JudgedRule { rule, text, action })?;
+    }
+    Ok(())
+}
+
 /// Returns the rules as lx has them, and reports all remarks on them.
 pub(crate) fn judge_rules(
     alloc: Global,
@@ -220,14 +261,18 @@ pub(crate) fn judge_rules(
     let mut judged = Vec::new(alloc);
     let mut behind_bar = false;
     let mut number: usize = 0;
-    for (rule, trailing, action) in kept {
+    for rule in kept {
         number = number.saturating_add(1);
-        judge_pattern(reports, &rule, trailing, behind_bar)?;
-        behind_bar = matches!(action, FlexAction::Bar);
-        judge_action(reports, rule.place, &action, number == count)?;
-        if let Some(text) = text_of(alloc, reports, &rule)? {
-            judged.push(JudgedRule { rule, text, action })?;
-        }
+        let is_bar = matches!(&rule.2, FlexAction::Bar);
+        judge_rule(
+            alloc,
+            reports,
+            rule,
+            behind_bar,
+            number == count,
+            &mut judged,
+        )?;
+        behind_bar = is_bar;
     }
     Ok(judged)
 }

@@ -5,99 +5,71 @@ ghost use Rattle.std.specs.Prelude.{◌≡◌, ◌<◌, ◌≤◌, ◌||◌, IsE
 use crate::actions::Problem;
 use crate::cursor::FilePlace;
 use std::alloc::{AllocError, AllocFailed};
+use std::fmt;
 use thiserror::Error;
 
 /// The cause of a report.
-#[derive(Debug, Clone, Copy, PartialEq, Eq, Error)]
+#[derive(Debug, Clone, Copy, PartialEq, Eq)]
 pub enum ImportCause {
-    #[error("the file has more than 1,048,576 bytes; split it")]
     TooLong,
-    #[error("there is no line %%; write one before the rules")]
     NoRules,
-    #[error("a comment, a code block, a scope or an action isn't closed; close it")]
     NotClosed,
-    #[error("flex has no such line among definitions; delete it")]
     BadDefinitionLine,
-    #[error("the name is defined or declared twice; delete one")]
     Twice,
-    #[error("there are more than 1,024 definitions, 63 start conditions, 4,096 rules or 64 nested scopes; split the file")]
     TooMany,
-    #[error("the patterns before this one have more than 262,144 parts; split the file")]
     LargePatterns,
-    #[error("flex has no such %option; delete the word")]
     UnknownOption,
-    #[error("C++ scanners (%option c++, yyclass) are not supported; a C++ compiler takes the scanner in C, so delete the word")]
     CppScanner,
-    #[error("serialized tables (%option tables-file, tables-verify) are not supported; the scanner has its tables, so delete the word")]
     SerializedTables,
-    #[error("words of %option that change no token are left out")]
     OptionsLeftOut,
-    #[error("flex reads no rule here; write a pattern, blanks and an action")]
     BadRule,
-    #[error("the start condition isn't declared; declare it with %s or %x")]
     UnknownCondition,
-    #[error("the pattern: {0}; write another one")]
     Pattern(lx_flex_pattern::PatternFault),
-    #[error("the last rule has the action of the next; write its action")]
     DanglingBar,
-    #[error("an <<EOF>> rule is left out; do its work at the end of the tokens")]
     EofRule,
-    #[error("trailing context, r/s; match r alone, or r and s as one token")]
     TrailingContext,
-    #[error("a pattern before $ that matches nothing; write + for *")]
     EmptyBeforeDollar,
-    #[error("$ after a rule with the action |, where flex takes the newline along; give that rule an action of its own")]
     DollarBehindBar,
-    #[error("REJECT; write the other rule's pattern first")]
     Reject,
-    #[error("yymore; join the tokens in what reads them")]
     More,
-    #[error("yyless; write a pattern for what is to be taken")]
     Less,
-    #[error("unput; change the text before it is scanned")]
     Unput,
-    #[error("input; write a pattern for what it reads")]
     Input,
-    #[error("yyterminate; stop in what reads the tokens")]
     Terminate,
-    #[error("a stack of start conditions; use BEGIN with a condition's name")]
     StateStack,
-    #[error("another buffer is scanned; scan it by a call of its own")]
     OtherBuffer,
-    #[error("BEGIN of what is no start condition's name; write the name")]
     UnknownBegin,
-    #[error("BEGIN under a condition; write a rule for each case")]
     ConditionalBegin,
-    #[error("BEGIN in the code before the first rule; call the scanner's begin in the program")]
     BeginBeforeRules,
-    #[error("yy_set_bol; write a start condition for the line's begin")]
     LineBegin,
-    #[error("the file is tables of lx, and no specification for flex; list files by it with lx scan")]
     Tables,
-    #[error("there are more than 1,000 of these lines; the others are left out")]
     Further,
-    #[error("lx refuses what would be printed: {0}")]
     Refused(lx_spec::Code),
-    #[error("lx reads what would be printed otherwise")]
     NotTheSame,
-    #[error("rule cannot be matched: {0}")]
     NeverMatched(Taker),
-    #[error("-s option given but default rule can be matched: no rule takes some of the bytes")]
     DefaultMatched,
-    #[error("dangerous trailing context: the token is the longest text of r such that s matches the rest, and flex may take a longer one")]
     DangerousContext,
-    #[error("the token before its context can be empty: the scanner loops if the action neither changes the condition nor reads on")]
     EmptyToken,
-    #[error("multiple <<EOF>> rules for a start condition: the first one is taken")]
     RepeatedEnd,
-    #[error("all start conditions already have <<EOF>> rules")]
     UselessEnd,
-    #[error("an interval repeats the unit before it in flex, and all before it in its branch in POSIX")]
     IntervalBinding {
         /// True if the command reads the pattern as POSIX does.
         posix: bool,
     },
 }
+
+impl fmt::Display for ImportCause {
+    fn fmt<W: fmt::Write>(&self, f: &mut fmt::Formatter<W>) -> fmt::Result {
+        match self {
+            ImportCause::Pattern(fault) => write!(f, "the pattern: {fault}; write another one"),
+            ImportCause::Refused(code) => write!(f, "lx refuses what would be printed: {code}"),
+            ImportCause::NeverMatched(taker) => write!(f, "rule cannot be matched: {taker}"),
+            _ => f.write_str(self.words()),
+        }
+    }
+}
+
+impl std::error::Error for ImportCause {}
 
 /// The rules that take the texts of a rule that is never matched.
 #[derive(Debug, Clone, Copy, PartialEq, Eq, Error)]
@@ -114,6 +86,96 @@ pub enum Taker {
 }
 
 impl ImportCause {
+    /// Returns the words of a cause that has the same ones at each place, and what to do.
+    fn words(&self) -> &'static str {
+        match self {
+            ImportCause::TooLong => "the file has more than 1,048,576 bytes; split it",
+            ImportCause::NoRules => "there is no line %%; write one before the rules",
+            ImportCause::NotClosed => {
+                "a comment, a code block, a scope or an action isn't closed; close it"
+            }
+            ImportCause::BadDefinitionLine => "flex has no such line among definitions; delete it",
+            ImportCause::Twice => "the name is defined or declared twice; delete one",
+            ImportCause::TooMany => {
+                "there are more than 1,024 definitions, 63 start conditions, 4,096 rules or 64 nested scopes; split the file"
+            }
+            ImportCause::LargePatterns => {
+                "the patterns before this one have more than 262,144 parts; split the file"
+            }
+            ImportCause::UnknownOption => "flex has no such %option; delete the word",
+            ImportCause::CppScanner => {
+                "C++ scanners (%option c++, yyclass) are not supported; a C++ compiler takes the scanner in C, so delete the word"
+            }
+            ImportCause::SerializedTables => {
+                "serialized tables (%option tables-file, tables-verify) are not supported; the scanner has its tables, so delete the word"
+            }
+            ImportCause::OptionsLeftOut => "words of %option that change no token are left out",
+            ImportCause::BadRule => {
+                "flex reads no rule here; write a pattern, blanks and an action"
+            }
+            ImportCause::UnknownCondition => {
+                "the start condition isn't declared; declare it with %s or %x"
+            }
+            ImportCause::DanglingBar => {
+                "the last rule has the action of the next; write its action"
+            }
+            ImportCause::EofRule => {
+                "an <<EOF>> rule is left out; do its work at the end of the tokens"
+            }
+            ImportCause::TrailingContext => {
+                "trailing context, r/s; match r alone, or r and s as one token"
+            }
+            ImportCause::EmptyBeforeDollar => {
+                "a pattern before $ that matches nothing; write + for *"
+            }
+            ImportCause::DollarBehindBar => {
+                "$ after a rule with the action |, where flex takes the newline along; give that rule an action of its own"
+            }
+            ImportCause::Reject => "REJECT; write the other rule's pattern first",
+            ImportCause::More => "yymore; join the tokens in what reads them",
+            ImportCause::Less => "yyless; write a pattern for what is to be taken",
+            ImportCause::Unput => "unput; change the text before it is scanned",
+            ImportCause::Input => "input; write a pattern for what it reads",
+            ImportCause::Terminate => "yyterminate; stop in what reads the tokens",
+            ImportCause::StateStack => {
+                "a stack of start conditions; use BEGIN with a condition's name"
+            }
+            ImportCause::OtherBuffer => "another buffer is scanned; scan it by a call of its own",
+            ImportCause::UnknownBegin => {
+                "BEGIN of what is no start condition's name; write the name"
+            }
+            ImportCause::ConditionalBegin => "BEGIN under a condition; write a rule for each case",
+            ImportCause::BeginBeforeRules => {
+                "BEGIN in the code before the first rule; call the scanner's begin in the program"
+            }
+            ImportCause::LineBegin => "yy_set_bol; write a start condition for the line's begin",
+            ImportCause::Tables => {
+                "the file is tables of lx, and no specification for flex; list files by it with lx scan"
+            }
+            ImportCause::Further => {
+                "there are more than 1,000 of these lines; the others are left out"
+            }
+            ImportCause::NotTheSame => "lx reads what would be printed otherwise",
+            ImportCause::DefaultMatched => {
+                "-s option given but default rule can be matched: no rule takes some of the bytes"
+            }
+            ImportCause::DangerousContext => {
+                "dangerous trailing context: the token is the longest text of r such that s matches the rest, and flex may take a longer one"
+            }
+            ImportCause::EmptyToken => {
+                "the token before its context can be empty: the scanner loops if the action neither changes the condition nor reads on"
+            }
+            ImportCause::RepeatedEnd => {
+                "multiple <<EOF>> rules for a start condition: the first one is taken"
+            }
+            ImportCause::UselessEnd => "all start conditions already have <<EOF>> rules",
+            ImportCause::IntervalBinding { posix: _ } => {
+                "an interval repeats the unit before it in flex, and all before it in its branch in POSIX"
+            }
+            ImportCause::Pattern(_) | ImportCause::Refused(_) | ImportCause::NeverMatched(_) => "",
+        }
+    }
+
     /// Returns what to do, if the text of the cause doesn't say it.
     pub fn hint(&self) -> Option<&'static str> {
         match self {

@@ -72,7 +72,12 @@ impl<'a> CodePlaces<'a> {
 }
 
 fn is_among(numbers: &[u16], number: u16) -> bool {
-    numbers.contains(&number)
+    for known in numbers {
+        if *known == number {
+            return true;
+        }
+    }
+    false
 }
 
 /// Returns true if a rule for the end of the input is for this condition. Without a list of conditions it is for all (flex's manual, "End-of-File Rules").

@@ -333,6 +333,18 @@ impl FileOutline<'_> {
         false
     }
 
+    /// Returns true if the end of a rule's token is to be found: neither the token nor its context has one length.
+    pub(crate) fn has_varying_cut(&self) -> bool {
+        for rule in self.rules.as_slice() {
+            if let Some(pattern) = rule.pattern {
+                if is_varying(pattern.cut) {
+                    return true;
+                }
+            }
+        }
+        false
+    }
+
     /// Returns true if a rule has trailing context.
     pub fn has_cut(&self) -> bool {
         for rule in self.rules.as_slice() {

@@ -12,12 +12,12 @@ use crate::list_arrays::list_arrays_of;
 use crate::outline::FileOutline;
 use crate::rule_code::{push_cuts, push_matches};
 use crate::skeleton_calls::{
-    ACCESS, ACCESS_LINES, CREATE, DELETE, DESTROY, FATAL, MAIN, MEMORY, POSITION, SCAN, SCAN_BYTES,
-    SCAN_STRING, STATES, SWITCH,
+    ACCESS, ACCESS_LINES, CREATE, DELETE, DESTROY, FATAL, M4, MAIN, MEMORY, POSITION, SCAN,
+    SCAN_BYTES, SCAN_STRING, STATES, SWITCH,
 };
 use crate::skeleton_head::{
-    BUFFERS, CLOSING, GUTS, HEADER_TYPES, HELPERS, INTERFACE, M4, MACROS, NAMES, NAMES_2, OPENING,
-    SYSTEM, TEXT_MACROS, TYPES, VARIABLES,
+    BUFFERS, CLOSING, CONDITIONS, GUTS, HEADER_TYPES, HELPERS, INTERFACE, MACROS, NAMES, NAMES_2,
+    OPENING, SYSTEM, TEXT_MACROS, TYPES, VARIABLES,
 };
 use crate::skeleton_scan::{
     ACCEPT, CUT, END_OF_FILE, GROW, INPUT, READ, REFILL, REJECT, STEPS, TAKE, UNPUT, WALK, YYLEX,
@@ -64,21 +64,23 @@ fn environment_of<'a>(
 ) -> Result<Environment<'a>, AllocError> {
     let options = &outline.declared.options;
     let prefix = options.value_of(b"prefix").unwrap_or(b"yy");
-    let mut environment = Environment::new(alloc, prefix);
-    for word in options.words_on(alloc)? {
-        environment.add(word, true)?;
-    }
-    environment.add(b"in-header", in_header)?;
-    environment.add(b"prefix", prefix != b"yy".as_slice())?;
-    environment.add(b"bol", outline.has_line_begin())?;
-    environment.add(b"cut", outline.has_cut())?;
     let joins = outline.actions_have(b"yymore") && options.place_of(b"yymore").is_none();
-    environment.add(b"yymore", joins)?;
-    environment.add(b"reject", outline.has_reject())?;
     let in_states = form == ScannerForm::States;
-    environment.add(b"states", in_states)?;
     let may_lack_actions = outline.may_leave_out_rules() && outline.has_pattern();
-    environment.add(b"labels", in_states && !may_lack_actions)?;
+    let scans_bytes = options.is_on(b"yy_scan_string") || options.is_on(b"yy_scan_bytes");
+    let mut environment = Environment::new(options.words_on(alloc)?, prefix);
+    environment.add_all(&[
+        (b"in-header", in_header),
+        (b"prefix", prefix != b"yy".as_slice()),
+        (b"bol", outline.has_line_begin()),
+        (b"varying", outline.has_varying_cut()),
+        (b"yymore", joins),
+        (b"reject", outline.has_reject()),
+        (b"states", in_states),
+        (b"labels", in_states && !may_lack_actions),
+        (b"scan", scans_bytes || options.is_on(b"yy_scan_buffer")),
+        (b"scan-bytes", scans_bytes),
+    ])?;
     Ok(environment)
 }
 
@@ -91,20 +93,6 @@ fn push_all(
 ) -> Result<(), AllocError> {
     for template in templates {
         push_template(alloc, output, environment, template)?;
-    }
-    Ok(())
-}
-
-/// Appends templates if an option is on.
-fn push_if(
-    alloc: Global,
-    output: &mut Output,
-    environment: &Environment,
-    word: &[u8],
-    templates: &[&[u8]],
-) -> Result<(), AllocError> {
-    if environment.has(word) {
-        push_all(alloc, output, environment, templates)?;
     }
     Ok(())
 }
@@ -241,6 +229,20 @@ fn push_list_macros(output: &mut Output, lists: &ListAutomaton) -> Result<(), Al
     )
 }
 
+/// Appends the code of `%top`, and what begins a scanner and its header.
+fn push_opening(
+    alloc: Global,
+    output: &mut Output,
+    environment: &Environment,
+    outline: &FileOutline,
+    options: PrintOptions,
+    places: CodePlaces,
+) -> Result<(), AllocError> {
+    places.push_all_code(output, outline.declared.top.as_slice())?;
+    push_template(alloc, output, environment, OPENING)?;
+    push_macros(output, options.macros)
+}
+
 /// Appends the part of a scanner before the arrays of its automaton.
 fn push_head(
     alloc: Global,
@@ -251,16 +253,21 @@ fn push_head(
     options: PrintOptions,
     places: CodePlaces,
 ) -> Result<(), AllocError> {
-    places.push_all_code(output, outline.declared.top.as_slice())?;
-    push_template(alloc, output, environment, OPENING)?;
-    push_macros(output, options.macros)?;
-    push_if(alloc, output, environment, b"prefix", &[NAMES, NAMES_2])?;
-    push_template(alloc, output, environment, SYSTEM)?;
+    push_opening(alloc, output, environment, outline, options, places)?;
     push_all(
         alloc,
         output,
         environment,
-        &[TYPES, BUFFERS, MACROS, TEXT_MACROS, VARIABLES],
+        &[
+            NAMES,
+            NAMES_2,
+            SYSTEM,
+            TYPES,
+            BUFFERS,
+            MACROS,
+            TEXT_MACROS,
+            VARIABLES,
+        ],
     )?;
     push_table_macros(output, tables, options.form)
 }
@@ -284,29 +291,26 @@ fn push_before_walk(
     output: &mut Output,
     environment: &Environment,
     outline: &FileOutline,
-    cut_tables: Option<&Tables>,
     places: CodePlaces,
 ) -> Result<(), AllocError> {
     push_all(
         alloc,
         output,
         environment,
-        &[GUTS, INTERFACE, HELPERS, READ],
+        &[
+            GUTS,
+            INTERFACE,
+            HELPERS,
+            READ,
+            STATE_MACROS,
+            STEPS,
+            CUT,
+            REJECT,
+            YYLEX,
+        ],
     )?;
-    let in_states = environment.has(b"states");
-    push_template(
-        alloc,
-        output,
-        environment,
-        if in_states { STATE_MACROS } else { STEPS },
-    )?;
-    if cut_tables.is_some() {
-        push_template(alloc, output, environment, CUT)?;
-    }
-    push_if(alloc, output, environment, b"reject", &[REJECT])?;
-    push_template(alloc, output, environment, YYLEX)?;
     places.push_all_code(output, outline.first_code.as_slice())?;
-    push_if(alloc, output, environment, b"states", &[STATE_BEGIN])
+    push_template(alloc, output, environment, STATE_BEGIN)
 }
 
 /// Appends the walk by rows, and what is done with its match.
@@ -340,9 +344,12 @@ fn push_after_walk(
         push_rows_walk(alloc, output, environment, outline, tables.cut_tables)?;
     }
     push_actions(alloc, output, places, outline)?;
-    push_all(alloc, output, environment, &[YYLEX_END, GROW, REFILL])?;
-    push_if(alloc, output, environment, b"unput", &[UNPUT])?;
-    push_if(alloc, output, environment, b"input", &[INPUT])
+    push_all(
+        alloc,
+        output,
+        environment,
+        &[YYLEX_END, GROW, REFILL, UNPUT, INPUT],
+    )
 }
 
 /// Appends the functions of the interface.
@@ -355,33 +362,23 @@ fn push_calls(
         alloc,
         output,
         environment,
-        &[POSITION, CREATE, SWITCH, DELETE],
-    )?;
-    let strings = environment.has(b"yy_scan_string");
-    let bytes = strings || environment.has(b"yy_scan_bytes");
-    if bytes || environment.has(b"yy_scan_buffer") {
-        push_template(alloc, output, environment, SCAN)?;
-    }
-    if bytes {
-        push_template(alloc, output, environment, SCAN_BYTES)?;
-    }
-    if strings {
-        push_template(alloc, output, environment, SCAN_STRING)?;
-    }
-    push_if(alloc, output, environment, b"stack", &[STATES])?;
-    push_all(
-        alloc,
-        output,
-        environment,
-        &[FATAL, ACCESS, ACCESS_LINES, DESTROY, MEMORY],
-    )?;
-    push_if(alloc, output, environment, b"main", &[MAIN])?;
-    push_if(
-        alloc,
-        output,
-        environment,
-        b"unsafe-no-m4-sect3-escape",
-        &[M4],
+        &[
+            POSITION,
+            CREATE,
+            SWITCH,
+            DELETE,
+            SCAN,
+            SCAN_BYTES,
+            SCAN_STRING,
+            STATES,
+            FATAL,
+            ACCESS,
+            ACCESS_LINES,
+            DESTROY,
+            MEMORY,
+            MAIN,
+            M4,
+        ],
     )
 }
 
@@ -423,13 +420,12 @@ fn code_before_walk(
     alloc: Global,
     environment: &Environment,
     outline: &FileOutline,
-    cut_tables: Option<&Tables>,
     places: CodePlaces,
     lines: u32,
 ) -> Result<Output, AllocError> {
     let mut output = Output::after(alloc, lines);
     push_declarations(&mut output, outline, places)?;
-    push_before_walk(alloc, &mut output, environment, outline, cut_tables, places)?;
+    push_before_walk(alloc, &mut output, environment, outline, places)?;
     Ok(output)
 }
 
@@ -602,14 +598,7 @@ fn texts_of<'a>(
     )?;
     let middle = middle_of(alloc, &environment, outline, tables)?;
     let lines = lines_before_code(&mut head, arrays, &middle);
-    let mut before_walk = code_before_walk(
-        alloc,
-        &environment,
-        outline,
-        tables.cut_tables,
-        places,
-        lines,
-    )?;
+    let mut before_walk = code_before_walk(alloc, &environment, outline, places, lines)?;
     let lines = before_walk
         .line()
         .saturating_sub(1)
@@ -642,6 +631,28 @@ pub fn scanner_of<'a>(
     joined(texts, &arrays)
 }
 
+/// Appends a header.
+fn push_header(
+    alloc: Global,
+    output: &mut Output,
+    environment: &Environment,
+    outline: &FileOutline,
+    options: PrintOptions,
+    places: CodePlaces,
+) -> Result<(), AllocError> {
+    push_opening(alloc, output, environment, outline, options, places)?;
+    push_all(alloc, output, environment, &[SYSTEM, TYPES])?;
+    push_extra_type(output, outline)?;
+    push_all(
+        alloc,
+        output,
+        environment,
+        &[BUFFERS, HEADER_TYPES, INTERFACE, CONDITIONS],
+    )?;
+    push_conditions(output, outline)?;
+    push_template(alloc, output, environment, CLOSING)
+}
+
 /// Returns the header of a scanner.
 pub fn header_of<'a>(
     alloc: Global,
@@ -651,21 +662,7 @@ pub fn header_of<'a>(
     let environment = environment_of(alloc, outline, true, options.form)?;
     let places = places_of(outline, &environment, options);
     let mut output = Output::after(alloc, 0);
-    places.push_all_code(&mut output, outline.declared.top.as_slice())?;
-    push_template(alloc, &mut output, &environment, OPENING)?;
-    push_macros(&mut output, options.macros)?;
-    push_all(alloc, &mut output, &environment, &[SYSTEM, TYPES])?;
-    push_extra_type(&mut output, outline)?;
-    push_all(
-        alloc,
-        &mut output,
-        &environment,
-        &[BUFFERS, HEADER_TYPES, INTERFACE],
-    )?;
-    output.push(b"\n#ifdef YY_HEADER_EXPORT_START_CONDITIONS\n")?;
-    push_conditions(&mut output, outline)?;
-    output.push(b"#endif\n")?;
-    push_template(alloc, &mut output, &environment, CLOSING)?;
+    push_header(alloc, &mut output, &environment, outline, options, places)?;
     let Output { text, .. } = output;
     Ok(text)
 }

@@ -260,6 +260,21 @@ fn push_jump(
     push_number_then(&mut output.text, number, b";\n")
 }
 
+/// Appends the label of a rule's match, what is done with it, and the jump to the rule's action.
+fn push_labelled_match(
+    output: &mut Output,
+    environment: &Environment,
+    matched: MatchOutline,
+    place: &mut CutPlace,
+) -> Result<(), AllocError> {
+    output.push(b"yy_a")?;
+    push_number_then(&mut output.text, matched.number, b":\n")?;
+    push_cut(output, environment, matched.pattern.cut, place)?;
+    output.end_line()?;
+    push_match(output, environment, matched)?;
+    push_jump(output, environment, matched.number)
+}
+
 /// Appends what is done where a walk through the states ends: the last place is found where a rule matched, and that rule's match is taken.
 pub(crate) fn push_matches(
     alloc: Global,
@@ -283,18 +298,13 @@ pub(crate) fn push_matches(
             continue;
         };
         number = number.saturating_add(1);
-        output.push(b"yy_a")?;
-        push_number_then(&mut output.text, number, b":\n")?;
-        push_cut(output, environment, pattern.cut, &mut place)?;
-        output.end_line()?;
         let matched = MatchOutline {
             number,
             pattern,
             is_idle: may_skip && outline.is_idle(index, code_follows.as_slice()),
             starts: starts_after(tables.tables, outline, rule),
         };
-        push_match(output, environment, matched)?;
-        push_jump(output, environment, number)?;
+        push_labelled_match(output, environment, matched, &mut place)?;
     }
     push_default_match(output, environment, number.saturating_add(1))
 }

@@ -216,7 +216,8 @@ void yy_flush_buffer(YY_BUFFER_STATE yy_buffer@P)
 
 "#;
 
-pub(crate) const SCAN: &[u8] = br#"%if yy_scan_buffer
+pub(crate) const SCAN: &[u8] = br#"%if scan
+%if yy_scan_buffer
 /* Makes a buffer of yy_size bytes that stay where they are. Returns NULL if the last two aren't NUL. */
 YY_BUFFER_STATE yy_scan_buffer(char *yy_base, yy_size_t yy_size@P)
 %else
@@ -241,9 +242,11 @@ static YY_BUFFER_STATE yy_scan_in_place(char *yy_base, yy_size_t yy_size@P)
     return yy_buffer;
 }
 
+%end
 "#;
 
-pub(crate) const SCAN_BYTES: &[u8] = br#"/* Makes a buffer with a copy of some bytes. */
+pub(crate) const SCAN_BYTES: &[u8] = br#"%if scan-bytes
+/* Makes a buffer with a copy of some bytes. */
 %if yy_scan_bytes
 YY_BUFFER_STATE yy_scan_bytes(const char *yy_bytes, int yy_length@P)
 %else
@@ -269,9 +272,11 @@ static YY_BUFFER_STATE yy_scan_copy(const char *yy_bytes, int yy_length@P)
     return yy_buffer;
 }
 
+%end
 "#;
 
-pub(crate) const SCAN_STRING: &[u8] = br#"/* Makes a buffer with a copy of a string. */
+pub(crate) const SCAN_STRING: &[u8] = br#"%if yy_scan_string
+/* Makes a buffer with a copy of a string. */
 YY_BUFFER_STATE yy_scan_string(const char *yy_text@P)
 {
 %if yy_scan_bytes
@@ -281,9 +286,11 @@ YY_BUFFER_STATE yy_scan_string(const char *yy_text@P)
 %end
 }
 
+%end
 "#;
 
-pub(crate) const STATES: &[u8] = br#"%if yy_push_state
+pub(crate) const STATES: &[u8] = br#"%if stack
+%if yy_push_state
 /* Enters a start condition, from which yy_pop_state leads back. */
 static void yy_push_state(int yy_new_state@P)
 {
@@ -332,6 +339,7 @@ static int yy_top_state(@p)
     return @gyy_start_stack[@gyy_start_stack_ptr - 1];
 }
 
+%end
 %end
 "#;
 
@@ -674,7 +682,8 @@ void yyfree(void *yy_block@P)
 %end
 "#;
 
-pub(crate) const MAIN: &[u8] = br#"int main(void)
+pub(crate) const MAIN: &[u8] = br#"%if main
+int main(void)
 {
 %if reentrant
     yyscan_t yy_scanner;
@@ -689,4 +698,20 @@ pub(crate) const MAIN: &[u8] = br#"int main(void)
     return 0;
 }
 
+%end
+"#;
+
+pub(crate) const M4: &[u8] = br#"%if unsafe-no-m4-sect3-escape
+/* Names that flex's m4 replaces in the third section. */
+%if reentrant
+#define M4_YY_DECL_GUTS_VAR() struct yyguts_t *yyg = (struct yyguts_t *)yyscanner
+#define M4_YY_CALL_ONLY_ARG yyscanner
+#define M4_YY_CALL_LAST_ARG , yyscanner
+%else
+#define M4_YY_DECL_GUTS_VAR()
+#define M4_YY_CALL_ONLY_ARG
+#define M4_YY_CALL_LAST_ARG
+%end
+
+%end
 "#;

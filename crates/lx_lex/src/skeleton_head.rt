@@ -28,8 +28,8 @@ pub(crate) const OPENING: &[u8] = br#"%if in-header
 
 "#;
 
-pub(crate) const NAMES: &[u8] =
-    br#"/* The interface has the prefix "@x" for the linker, so that a program can have several scanners. */
+pub(crate) const NAMES: &[u8] = br#"%if prefix
+/* The interface has the prefix "@x" for the linker, so that a program can have several scanners. */
 #ifndef yylex
 #define yylex @xlex
 #endif
@@ -96,9 +96,11 @@ pub(crate) const NAMES: &[u8] =
 #endif
 %end
 
+%end
 "#;
 
-pub(crate) const NAMES_2: &[u8] = br#"#ifndef yylex_destroy
+pub(crate) const NAMES_2: &[u8] = br#"%if prefix
+#ifndef yylex_destroy
 #define yylex_destroy @xlex_destroy
 #endif
 #ifndef yyget_debug
@@ -168,6 +170,7 @@ pub(crate) const NAMES_2: &[u8] = br#"#ifndef yylex_destroy
 %end
 %end
 
+%end
 "#;
 
 pub(crate) const SYSTEM: &[u8] = br#"#include <errno.h>
@@ -438,19 +441,6 @@ static size_t yy_kept_max = 0;
 
 "#;
 
-pub(crate) const M4: &[u8] = br#"/* Names that flex's m4 replaces in the third section. */
-%if reentrant
-#define M4_YY_DECL_GUTS_VAR() struct yyguts_t *yyg = (struct yyguts_t *)yyscanner
-#define M4_YY_CALL_ONLY_ARG yyscanner
-#define M4_YY_CALL_LAST_ARG , yyscanner
-%else
-#define M4_YY_DECL_GUTS_VAR()
-#define M4_YY_CALL_ONLY_ARG
-#define M4_YY_CALL_LAST_ARG
-%end
-
-"#;
-
 pub(crate) const GUTS: &[u8] = br#"#ifndef YY_NO_UNISTD_H
 #include <unistd.h>
 #endif
@@ -605,7 +595,10 @@ extern int @xlex(@d);
 
 "#;
 
-pub(crate) const CLOSING: &[u8] = br#"#undef @xIN_HEADER
+pub(crate) const CONDITIONS: &[u8] = b"\n#ifdef YY_HEADER_EXPORT_START_CONDITIONS\n";
+
+pub(crate) const CLOSING: &[u8] = br#"#endif
+#undef @xIN_HEADER
 #endif
 
 "#;

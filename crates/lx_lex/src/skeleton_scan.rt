@@ -48,7 +48,8 @@ static int yy_unused yy_default_input(char *yy_text, int yy_max_size@P)
 
 "#;
 
-pub(crate) const STEPS: &[u8] = br#"/* Returns 1 if some byte leads on from a row. */
+pub(crate) const STEPS: &[u8] = br#"%if !states
+/* Returns 1 if some byte leads on from a row. */
 static int yy_has_steps(unsigned int yy_row)
 {
     unsigned int yy_i;
@@ -60,9 +61,11 @@ static int yy_has_steps(unsigned int yy_row)
     return 0;
 }
 
+%end
 "#;
 
-pub(crate) const CUT: &[u8] = br#"/* The class of a byte of a match in the rows below. */
+pub(crate) const CUT: &[u8] = br#"%if varying
+/* The class of a byte of a match in the rows below. */
 #define YY_CUT_CLASS(c) ((c) != '\0' ? yy_cut_class[(unsigned char)(c)] : YY_CUT_NUL_CLASS)
 
 /* Returns where the token of a rule r/s ends whose lengths vary both: after the longest text of r that a text of s follows up to the end of the match.
@@ -96,10 +99,11 @@ static char *yy_cut_match(char *yy_from, char *yy_to, unsigned int yy_token_row,
     return yy_from + yy_i;
 }
 
+%end
 "#;
 
-pub(crate) const REJECT: &[u8] =
-    br#"/* Walks over a match again, and keeps the row after each of its bytes. */
+pub(crate) const REJECT: &[u8] = br#"%if reject
+/* Walks over a match again, and keeps the row after each of its bytes. */
 static void yy_keep_rows(unsigned int yy_row, const char *yy_from, size_t yy_length@P)
 {
 %if reentrant
@@ -146,6 +150,7 @@ static int yy_next_rule(int yy_condition, const char *yy_from, size_t *yy_length
     return (int)yy_lists[*yy_place];
 }
 
+%end
 "#;
 
 pub(crate) const YYLEX: &[u8] =
@@ -520,7 +525,8 @@ static int yy_refill(@p)
 
 "#;
 
-pub(crate) const UNPUT: &[u8] = br#"#ifndef YY_NO_UNPUT
+pub(crate) const UNPUT: &[u8] = br#"%if unput
+#ifndef YY_NO_UNPUT
 /* Puts a byte before the next one. Nothing reads the second parameter, which programs pass that call yyunput by name. */
 static void yyunput(int yy_byte, char *yy_text@P)
 {
@@ -549,9 +555,11 @@ static void yyunput(int yy_byte, char *yy_text@P)
 }
 #endif
 
+%end
 "#;
 
-pub(crate) const INPUT: &[u8] = br#"#ifndef YY_NO_INPUT
+pub(crate) const INPUT: &[u8] = br#"%if input
+#ifndef YY_NO_INPUT
 /* Takes the next byte of the input and returns it, or 0 at the end. */
 #ifdef __cplusplus
 static int yyinput(@p)
@@ -592,4 +600,5 @@ static int input(@p)
 }
 #endif
 
+%end
 "#;

@@ -1,8 +1,8 @@
 //! The scanner as code for each state: the macros of this code, and what goes on where a walk stops.
 
 /// The macros that the code of states and rules uses.
-pub(crate) const STATE_MACROS: &[u8] =
-    br#"/* Nonzero if a state steps to itself on a byte, and on the last byte that was read. */
+pub(crate) const STATE_MACROS: &[u8] = br#"%if states
+/* Nonzero if a state steps to itself on a byte, and on the last byte that was read. */
 #define yy__MARKED(state, byte) (yy__mark[(state) / 8 * 256 + (byte)] & 1 << (state) % 8)
 #define yy__IN(state) yy__MARKED(state, yy_byte)
 
@@ -136,11 +136,12 @@ pub(crate) const STATE_MACROS: &[u8] =
 #define YY_SKIP(next) { yy_bp = yy_cp; yy_last_rule = 0; next }
 #endif
 
+%end
 "#;
 
 /// The beginning of a match, up to the starts of the conditions.
-pub(crate) const STATE_BEGIN: &[u8] =
-    br#"    (void)yy__mark; /* in some scanners no state steps to itself */
+pub(crate) const STATE_BEGIN: &[u8] = br#"%if states
+    (void)yy__mark; /* in some scanners no state steps to itself */
     for (;;) {
 %if yymore
 %if !array
@@ -162,6 +163,7 @@ pub(crate) const STATE_BEGIN: &[u8] =
         switch (@gyy_start - 1) {
 %end
         default:
+%end
 "#;
 
 /// The jump of a case to a state, whose number comes after it.

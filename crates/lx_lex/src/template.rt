@@ -31,17 +31,17 @@ fn parameters(values: bool, places: bool, reentrant: bool) -> &'static [u8] {
 }
 
 impl<'a> Environment<'a> {
-    pub(crate) fn new(alloc: Global, prefix: &'a [u8]) -> Environment<'a> {
-        Environment {
-            words: Vec::new(alloc),
-            prefix,
-        }
+    /// Returns the environment with these words on.
+    pub(crate) fn new(words: Vec<&'a [u8]>, prefix: &'a [u8]) -> Environment<'a> {
+        Environment { words, prefix }
     }
 
-    /// Switches an option on, if it is wanted.
-    pub(crate) fn add(&mut self, word: &'a [u8], on: bool) -> Result<(), AllocError> {
-        if on {
-            self.words.push(word)?;
+    /// Switches on those options that have the flag.
+    pub(crate) fn add_all(&mut self, switches: &[(&'a [u8], bool)]) -> Result<(), AllocError> {
+        for (word, is_on) in switches {
+            if *is_on {
+                self.words.push(*word)?;
+            }
         }
         Ok(())
     }

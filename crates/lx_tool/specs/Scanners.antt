@@ -94,7 +94,7 @@ pub record IsScanner (text : List ℕ) : Type 0 where
   pub are_lists : FindsLists spec lists
   pub has_list_arrays : IfSome lists (λ l. HasListArrays l.automaton l.lists text)
 
--- A scanner went to the output or to a file, and then a header and a report on backing up to files, if they are asked for.
+-- A scanner went to the output or to a file, and then at most two further texts went to files: a header, and a report on backing up.
 pub record IsScannerPrinted {T : Type 0} (places : T → List ℕ → List ℕ → T → Type 0) (before after : T) (old new : Option (List ℕ)) : Type 0 where
   pub text : List ℕ
   pub is_scanner : IsScanner text

@@ -21,7 +21,9 @@ use lx_flex::Reports;
 use lx_flex::file::{FlexFile, read_file};
 use lx_flex::flags::{FlexAnswer, FlexCommand, read_command};
 use lx_flex::options::FlexOptions;
-use lx_lex::{PrintOptions, ScannerTables, asked_form, backup_of, form_of, header_of, scanner_of};
+use lx_lex::{
+    PrintOptions, ScannerTables, SourceName, asked_form, backup_of, form_of, header_of, scanner_of,
+};
 use lx_report::{NamedText, push_reports};
 use std::alloc::{AllocError, Global};
 use std::io::Write;
@@ -146,6 +148,15 @@ fn name_text<'a, 'n>(name: &'n Option<Vec<u8>>) -> Result<Option<&'n str>, Scann
         },
         None => Ok(None),
     }
+}
+
+// Returns the names as text.
+fn names_of<'a, 'n>(written: &'n OutputNames) -> Result<WrittenNames<'n>, ScannerFault<'a>> {
+    Ok(WrittenNames {
+        scanner: name_text(&written.scanner)?,
+        header: name_text(&written.header)?,
+        backup: name_text(&written.backup)?,
+    })
 }
 
 // Rejects an output that is one of the inputs.
@@ -295,28 +306,59 @@ fn scanner_text<'a, 's>(
     Ok(scanner_of(alloc, &made.outline, tables, options)?)
 }
 
-/// The texts that are written.
-#[derive(Clone, Copy)]
-struct WrittenTexts<'t> {
-    scanner: &'t [u8],
-    header: &'t [u8],
-    backup: &'t [u8],
+/// The texts that are written. The last is empty if it isn't asked for.
+#[derive(Drop)]
+struct WrittenTexts {
+    scanner: Vec<u8>,
+    header: Vec<u8>,
+    backup: Vec<u8>,
+}
+
+// Returns the texts to be written to files of these names.
+fn written_texts<'a, 's>(
+    alloc: Global,
+    made: &MadeScanner<'s>,
+    sources: &'s [SourceName<'s>],
+    names: WrittenNames<'s>,
+    macros: &'s [&'s str],
+    notes: &mut Vec<u8>,
+) -> Result<WrittenTexts, ScannerFault<'a>>
+    requires rules { IsMade (spec_view made.now.spec) made.now.cut_tables }
+    requires tables { AreTablesOf (spec_view made.now.spec) made.now.tables }
+    requires lists { FindsLists (spec_view made.now.spec) made.now.lists }
+    ensures { IfOk result (λ texts. IsScanner texts.scanner.items) }
+{
+    let asked = asked_form(&made.outline.declared.options);
+    let options = PrintOptions {
+        sources,
+        printed: names.scanner.unwrap_or("<stdout>").as_bytes(),
+        macros,
+        form: form_of(made.lists.is_some(), asked, &made.tables),
+    };
+    Ok(WrittenTexts {
+        scanner: scanner_text(alloc, made, options, notes)?,
+        header: header_of(alloc, &made.outline, options)?,
+        backup: match names.backup {
+            Some(_) => backup_of(alloc, &made.tables)?,
+            None => Vec::new(alloc),
+        },
+    })
 }
 
 // Writes the scanner, and its header and the report on backing up if they have names.
 fn write_outputs<'a, T: Targets, O: Write>(
     names: WrittenNames<'_>,
-    texts: WrittenTexts<'_>,
+    texts: &WrittenTexts,
     targets: &mut T,
     out: &mut O,
 ) -> Result<(), ScannerFault<'a>>
-    requires { IsScanner texts.scanner.now }
+    requires { IsScanner texts.now.scanner.items }
     ensures { OnOk result (IsScannerPrinted T.places targets.old targets.new
         (O.contents out.old) (O.contents out.new)) }
 {
-    write_or_place(names.scanner, texts.scanner, targets, out)?;
-    place_named(names.header, texts.header, targets)?;
-    place_named(names.backup, texts.backup, targets)
+    write_or_place(names.scanner, &texts.scanner, targets, out)?;
+    place_named(names.header, &texts.header, targets)?;
+    place_named(names.backup, &texts.backup, targets)
 }
 
 /// Words of the command line about outputs, and the files that these may not be.
@@ -325,6 +367,24 @@ struct OutputWords<'w, 'a> {
     files: &'w [&'a str],
     macros: &'w [&'w str],
     header: bool,
+}
+
+// Makes the scanner of a file. Writes its faults and warnings to `notes`.
+fn made_with_notes<'a, 's>(
+    alloc: Global,
+    file: FlexFile<'s>,
+    reports: Reports,
+    source: NamedText<'s>,
+    notes: &mut Vec<u8>,
+) -> Result<MadeScanner<'s>, ScannerFault<'a>>
+    ensures rules { IfOk result (λ made. IsMade (spec_view made.spec) made.cut_tables) }
+    ensures tables { IfOk result (λ made. AreTablesOf (spec_view made.spec) made.tables) }
+    ensures lists { IfOk result (λ made. FindsLists (spec_view made.spec) made.lists) }
+{
+    let mut reports = reports;
+    let made = made_of(alloc, file, &mut reports);
+    push_reports(alloc, notes, source, &reports, false)?;
+    made
 }
 
 // Prints the scanner of a file and its header. Writes its faults and warnings to `notes`.
@@ -342,35 +402,11 @@ fn print_file<'a, 's, T: Targets, O: Write>(
         (O.contents out.old) (O.contents out.new)) }
 {
     let written = output_names(alloc, &file.declared.options, words.header)?;
-    let names = WrittenNames {
-        scanner: name_text(&written.scanner)?,
-        header: name_text(&written.header)?,
-        backup: name_text(&written.backup)?,
-    };
+    let names = names_of(&written)?;
     judge_outputs(targets, names, words.files)?;
-    let mut reports = reports;
-    let made = made_of(alloc, file, &mut reports);
-    push_reports(alloc, notes, source, &reports, false)?;
-    let made = made?;
-    let asked = asked_form(&made.outline.declared.options);
-    let options = PrintOptions {
-        sources: source.names,
-        printed: names.scanner.unwrap_or("<stdout>").as_bytes(),
-        macros: words.macros,
-        form: form_of(made.lists.is_some(), asked, &made.tables),
-    };
-    let scanner = scanner_text(alloc, &made, options, notes)?;
-    let header = header_of(alloc, &made.outline, options)?;
-    let backup = match &written.backup {
-        Some(_) => backup_of(alloc, &made.tables)?,
-        None => Vec::new(alloc),
-    };
-    let texts = WrittenTexts {
-        scanner: scanner.as_slice(),
-        header: header.as_slice(),
-        backup: backup.as_slice(),
-    };
-    write_outputs(names, texts, targets, out)
+    let made = made_with_notes(alloc, file, reports, source, notes)?;
+    let texts = written_texts(alloc, &made, source.names, names, words.macros, notes)?;
+    write_outputs(names, &texts, targets, out)
 }
 
 // Does what the words ask for.

@@ -1,4 +1,4 @@
-use Rattle.std.proofs.Common.{rules, ◌≡◌, false}
+use Rattle.std.proofs.Common.{rules}
 use Rattle.lx_ere.specs.Regex.{regex_of}
 use Rattle.lx_flex.specs.Lengths.{HasNoNewline}
 use Rattle.lx_flex.proofs.TextForms.{times_newline}
